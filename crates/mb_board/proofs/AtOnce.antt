@@ -3,12 +3,12 @@ use Rattle.std.proofs.Common.{◌≡◌, ◌∙◌, ap, sym, ℕ, true, false, l
 use Rattle.std.specs.Prelude.{Option, Some, Ok}
 use Rattle.mb_model.specs.Keeping.{Rule}
 use Rattle.mb_walk.specs.Memory.{number_at, with_number}
-use Rattle.mb_machine.specs.declared.reference.Reference.{Reference}
-use Rattle.mb_machine.specs.World.{World}
-use Rattle.mb_machine.specs.Access.{translated}
-use Rattle.mb_machine.specs.Bus.{read_at, read_by, faulting, fault_of, place_at, written_at, written_by, wrote}
-use Rattle.mb_machine.specs.Places.{in_ram, taken, stored}
-use Rattle.mb_machine.proofs.BusLemmas.{taken_memory, stored_memory}
+use Rattle.def_machine.specs.declared.reference.Reference.{Reference}
+use Rattle.def_machine.specs.World.{World}
+use Rattle.def_machine.specs.Access.{translated}
+use Rattle.def_machine.specs.Bus.{read_at, read_by, faulting, fault_of, place_at, written_at, written_by, wrote}
+use Rattle.def_machine.specs.Places.{in_ram, taken, stored}
+use Rattle.def_machine.proofs.BusLemmas.{taken_memory, stored_memory}
 
 pub read_at_once : (rule : Rule) (w : World) (q r : Reference) (at len value : ℕ) → q ≡ r → translated rule q w ≡ (Some at, w)
     → in_ram (length w.ram) at len ≡ true → value ≡ number_at w.ram at len → read_by rule r len taken w ≡ (Ok value, w)

@@ -9,8 +9,8 @@ use Rattle.std.proofs.lemmas.Bool.Decides.{nat_tests}
 use Rattle.mb_script.specs.declared.entry.Entry.{Entry}
 use Rattle.mb_script.specs.Script.{IsScript}
 use Rattle.mb_devices.specs.Devices.{DeviceState}
-use Rattle.mb_machine.specs.Machine.{Entries, aborts, arrived, is_abort, taken_in}
-use Rattle.vm_meaning.specs.Batches.{IsQuietAt}
+use Rattle.def_machine.specs.Machine.{Entries, aborts, arrived, is_abort, taken_in}
+use Rattle.def_runs.specs.Batches.{IsQuietAt}
 use Rattle.mb_board.specs.Arrivals.{due_at, no_entry, IsNext}
 
 -- ---- order

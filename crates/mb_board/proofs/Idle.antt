@@ -8,12 +8,12 @@ use Rattle.mb_model.specs.declared.outcome.RunState.TheVariants.{Running, Stoppe
 use Rattle.mb_model.specs.Keeping.{Rule}
 use Rattle.mb_devices.specs.Devices.{DeviceState, ticked, ticks, passed, level_of, IsNotDue}
 use Rattle.mb_devices.proofs.Passing.{ticks_pass}
-use Rattle.mb_processor.specs.declared.Finish.TheVariants as finish
-use Rattle.mb_processor.specs.Raise.{Stepped, interrupt_of}
-use Rattle.mb_processor.specs.Step.{interrupt_mask, execute_next_of, rank, step_of}
-use Rattle.mb_machine.specs.Bus.{bus_of}
-use Rattle.mb_machine.specs.Machine.{Machine, run_of, state_after, stepped, takes_steps, with_finish}
-use Rattle.vm_meaning.proofs.Batches.{one_tick}
+use Rattle.def_processor.specs.declared.Finish.TheVariants as finish
+use Rattle.def_processor.specs.Raise.{Stepped, interrupt_of}
+use Rattle.def_processor.specs.Step.{interrupt_mask, execute_next_of, rank, step_of}
+use Rattle.def_machine.specs.Bus.{bus_of}
+use Rattle.def_machine.specs.Machine.{Machine, run_of, state_after, stepped, takes_steps, with_finish}
+use Rattle.def_runs.proofs.Batches.{one_tick}
 use Rattle.mb_board.specs.Idle.{IsHeld}
 use Rattle.mb_board.proofs.Runs.{run_of-step}
 

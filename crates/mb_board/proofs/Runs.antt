@@ -2,8 +2,8 @@
 use Rattle.std.proofs.Common.{◌≡◌, ◌∙◌, ℕ, zero, suc, ◌+◌, true, false, refl, ap, sym, inl, inr, arith}
 use Rattle.std.proofs.lemmas.Bool.{cases_Bool}
 use Rattle.mb_model.specs.Keeping.{Rule}
-use Rattle.mb_processor.specs.declared.Finish.{Finish}
-use Rattle.mb_machine.specs.Machine.{Entries, Machine, stepping, stepped, takes_steps, run_of}
+use Rattle.def_processor.specs.declared.Finish.{Finish}
+use Rattle.def_machine.specs.Machine.{Entries, Machine, stepping, stepped, takes_steps, run_of}
 
 -- a step is taken, and the rest of the run follows
 pub run_of-step : (rule : Rule) (script : Entries) (m n : ℕ) (s : Machine) → m ≡ suc n → takes_steps s.state ≡ true

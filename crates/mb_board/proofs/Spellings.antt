@@ -2,8 +2,8 @@
 use Rattle.std.specs.Prelude.{All}
 use Rattle.std.proofs.Common.{◌≡◌, ◌∙◌, ℕ, ◌+◌, ◌*◌, ◌%◌, ◌^◌, ◌<◌, List, [], ◌∷◌, ◌++◌, length, get_or, length-append, ap, sym, zero-mul, arith}
 use Rattle.mb_instr.specs.declared.registers.Plain.{Plain}
-use Rattle.vm_meaning.specs.Marks.{numbers_of, sum_with_all, spelled, with_spelled, trail, HasNumbers}
-use Rattle.vm_meaning.proofs.Spellings.{sum-spells, numbers-append, trails-by_spelling}
+use Rattle.def_runs.specs.Marks.{numbers_of, sum_with_all, spelled, with_spelled, trail, HasNumbers}
+use Rattle.def_runs.proofs.Spellings.{sum-spells, numbers-append, trails-by_spelling}
 use Rattle.mb_board.specs.Spelling.{Spell}
 
 eight : (t a b c d e f g h : ℕ) → t < 2 ^ 64

@@ -9,11 +9,11 @@ use Rattle.mb_script.specs.Script.{IsScript}
 use Rattle.mb_port.specs.Routine.{run}
 use Rattle.mb_model.specs.Keeping.{Rule}
 use Rattle.mb_devices.specs.Devices.{DeviceState, ticked}
-use Rattle.mb_processor.specs.Step.{step_of}
-use Rattle.mb_machine.specs.Bus.{bus_of}
-use Rattle.mb_machine.specs.Machine.{Entries, Machine, aborts, arrived, processed, run_of, stepped, takes_steps, with_devices, with_finish}
-use Rattle.mb_machine.proofs.Asked.{asked_devices}
-use Rattle.vm_meaning.specs.Batches.{IsQuietAt, NothingArrives}
+use Rattle.def_processor.specs.Step.{step_of}
+use Rattle.def_machine.specs.Bus.{bus_of}
+use Rattle.def_machine.specs.Machine.{Entries, Machine, aborts, arrived, processed, run_of, stepped, takes_steps, with_devices, with_finish}
+use Rattle.def_machine.proofs.Asked.{asked_devices}
+use Rattle.def_runs.specs.Batches.{IsQuietAt, NothingArrives}
 use Rattle.mb_board.specs.Arrivals.{due_at, no_entry, IsNext}
 use Rattle.mb_board.proofs.Due.{aborts-past, arrived-past, later-from, none-outside}
 use Rattle.mb_board.proofs.Runs.{run_of-step, run_of-still}

@@ -2,12 +2,12 @@
 use Rattle.std.proofs.Common.{◌≡◌, ◌∙◌, ℕ, suc, ◌+◌, refl, ap, sym, subst, true, false}
 use Rattle.mb_instr.specs.declared.registers.Plain.{Plain}
 use Rattle.mb_instr.specs.Registers.{is_supervisor, plain_of}
-use Rattle.mb_machine.specs.Machine.{Machine, takes_steps}
-use Rattle.vm_meaning.specs.declared.RunEnd.{RunEnd}
-use Rattle.vm_meaning.specs.declared.RunEnd.TheVariants.{Counted, Exit, Gone}
-use Rattle.vm_meaning.specs.Native.{NativeState, Ran, user_step, user_run, ran_by, about_to_run, goes_on, EndsBy}
+use Rattle.def_machine.specs.Machine.{Machine, takes_steps}
+use Rattle.def_runs.specs.declared.RunEnd.{RunEnd}
+use Rattle.def_runs.specs.declared.RunEnd.TheVariants.{Counted, Exit, Gone}
+use Rattle.def_runs.specs.Native.{NativeState, Ran, user_step, user_run, ran_by, about_to_run, goes_on, EndsBy}
 use Rattle.mb_board.specs.Fits.{IsFit, FitsAlong}
-use Rattle.vm_meaning.proofs.RunEnds.{run-none, run-on, run-off, goes-on, runs-end_by_cause}
+use Rattle.def_runs.proofs.RunEnds.{run-none, run-on, run-off, goes-on, runs-end_by_cause}
 
 not_counted : (e : RunEnd) → (e ≡ Counted → ⊥) → goes_on e ≡ false
 not_counted Counted h = absurd (h refl)

@@ -2,7 +2,7 @@
 use Rattle.std.specs.Prelude.{◌≤◌, ◌<◌, ℕ, length, slice_index_or}
 use Rattle.mb_script.specs.declared.entry.Entry.{Entry}
 use Rattle.mb_script.specs.declared.input.Input.TheVariants.{Abort}
-use Rattle.mb_machine.specs.Machine.{Entries}
+use Rattle.def_machine.specs.Machine.{Entries}
 
 -- what is read where no entry stands
 abbrev pub no_entry : Entry

@@ -3,7 +3,7 @@ use Rattle.std.specs.Prelude.{ℕ, [], length}
 use Rattle.mb_instr.specs.declared.registers.Plain.{Plain}
 use Rattle.mb_model.specs.declared.processor.Cpu.{Cpu}
 use Rattle.mb_model.specs.declared.outcome.RunState.{RunState}
-use Rattle.mb_machine.specs.World.{World}
+use Rattle.def_machine.specs.World.{World}
 use Rattle.mb_board.specs.State.{BoardState}
 
 pub record Beside : Type 0 where

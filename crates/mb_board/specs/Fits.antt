@@ -2,7 +2,7 @@
 use Rattle.std.specs.Prelude.{◌≡◌, ℕ, zero, suc, ◌^◌, ◌<◌, true, length, All}
 use Rattle.mb_instr.specs.declared.registers.Plain.{Plain}
 use Rattle.mb_instr.specs.Registers.{plain_of}
-use Rattle.vm_meaning.specs.Native.{Ran, goes_on, ran_by, user_step}
+use Rattle.def_runs.specs.Native.{Ran, goes_on, ran_by, user_step}
 
 -- D0 to D7 and A0 to A7 are longs, and so is PC.
 pub record IsFit (p : Plain) : Type 0 where

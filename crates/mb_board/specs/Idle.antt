@@ -2,8 +2,8 @@
 use Rattle.std.specs.Prelude.{◌≡◌, ◌≤◌, true, false}
 use Rattle.mb_model.specs.declared.outcome.RunState.TheVariants.{Stopped}
 use Rattle.mb_devices.specs.Devices.{level_of}
-use Rattle.mb_processor.specs.Step.{interrupt_mask, rank}
-use Rattle.mb_machine.specs.Machine.{Machine}
+use Rattle.def_processor.specs.Step.{interrupt_mask, rank}
+use Rattle.def_machine.specs.Machine.{Machine}
 
 -- STOP holds the processor, which is on, and no interrupt above its mask is asked for.
 pub record IsHeld (m : Machine) : Type 0 where

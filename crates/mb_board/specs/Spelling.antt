@@ -1,8 +1,8 @@
 -- What registers spell, as far as a sum modulo 2^64 knows it.
 use Rattle.std.specs.Prelude.{◌≡◌, ℕ, ◌%◌, ◌^◌}
 use Rattle.mb_instr.specs.declared.registers.Plain.{Plain}
-use Rattle.vm_meaning.specs.Marks.{numbers_of, spelled, HasNumbers}
-use Rattle.vm_meaning.specs.Native.{NativeState, with_retired}
+use Rattle.def_runs.specs.Marks.{numbers_of, spelled, HasNumbers}
+use Rattle.def_runs.specs.Native.{NativeState, with_retired}
 use Rattle.mb_board.specs.Fits.{IsFit}
 
 -- The eighteen numbers of registers, which a processor may have, spell this, modulo 2^64.

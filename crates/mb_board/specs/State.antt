@@ -3,10 +3,10 @@ use Rattle.std.specs.Prelude.{ℕ, replicate}
 use Rattle.mb_instr.specs.declared.registers.Plain.{Plain}
 use Rattle.mb_model.specs.declared.processor.Cpu.{Cpu}
 use Rattle.mb_model.specs.declared.outcome.RunState.{RunState}
-use Rattle.mb_machine.specs.World.{World}
-use Rattle.mb_machine.specs.Machine.{Machine}
-use Rattle.vm_meaning.specs.declared.RunEnd.{RunEnd}
-use Rattle.vm_meaning.specs.Native.{NativeState, Ran, about_to_run}
+use Rattle.def_machine.specs.World.{World}
+use Rattle.def_machine.specs.Machine.{Machine}
+use Rattle.def_runs.specs.declared.RunEnd.{RunEnd}
+use Rattle.def_runs.specs.Native.{NativeState, Ran, about_to_run}
 
 -- Its machine, and the registers at the beginning of the last step that it took in user mode for a monitor.
 pub record BoardState : Type 0 where

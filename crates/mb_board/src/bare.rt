@@ -6,8 +6,8 @@
 ghost use Rattle.std.specs.Prelude.{◌≡◌, ◌+◌, ◌^◌, ◌<◌, ◌≤◌, [], length, true};
 ghost use Rattle.mb_model.specs.Keeping.{rule_a};
 ghost use Rattle.mb_devices.specs.Devices.{passed, IsNotDue};
-ghost use Rattle.mb_machine.specs.Machine.{run_of, stepping, takes_steps};
-ghost use Rattle.vm_meaning.specs.Free.{IsFreeRun};
+ghost use Rattle.def_machine.specs.Machine.{run_of, stepping, takes_steps};
+ghost use Rattle.def_runs.specs.Free.{IsFreeRun};
 ghost use Rattle.mb_board.specs.Arrivals.{IsNext};
 ghost use Rattle.mb_board.specs.Idle.{IsHeld};
 
@@ -15,9 +15,9 @@ use crate::board::{BARE, Core};
 use crate::bus::BoardBus;
 use crate::receiving::place_behind;
 use crate::states::state_of;
+use def_processor::Finish;
 use mb_devices::Devices;
 use mb_model::RunState;
-use mb_processor::Finish;
 use mb_script::Script;
 use mb_step::rank;
 

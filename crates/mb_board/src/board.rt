@@ -6,24 +6,24 @@ ghost use Rattle.mb_model.specs.Seen.{seen_of};
 ghost use Rattle.mb_walk.specs.Memory.{overwritten};
 ghost use Rattle.mb_devices.specs.Devices.{idle, restarted};
 ghost use Rattle.mb_port.specs.Routine.{run};
-ghost use Rattle.mb_processor.specs.Raise.{step_end};
-ghost use Rattle.mb_processor.specs.Step.{step_of};
-ghost use Rattle.mb_machine.specs.Bus.{bus_of};
-ghost use Rattle.mb_machine.specs.Machine.{processed, reset_with, run_of, seen_machine, stepped, stepping, with_cpu};
-ghost use Rattle.mb_machine.specs.Machine.{takes_steps, with_ram};
-ghost use Rattle.vm_meaning.specs.Free.{IsFreeRun};
-ghost use Rattle.vm_meaning.specs.Native.{user_step};
+ghost use Rattle.def_processor.specs.Raise.{step_end};
+ghost use Rattle.def_processor.specs.Step.{step_of};
+ghost use Rattle.def_machine.specs.Bus.{bus_of};
+ghost use Rattle.def_machine.specs.Machine.{processed, reset_with, run_of, seen_machine, stepped, stepping, with_cpu};
+ghost use Rattle.def_machine.specs.Machine.{takes_steps, with_ram};
+ghost use Rattle.def_runs.specs.Free.{IsFreeRun};
+ghost use Rattle.def_runs.specs.Native.{user_step};
 ghost use Rattle.mb_board.specs.declared.bus.TheConstants.{MOST_BOARD_BYTES};
 ghost use Rattle.mb_board.specs.State.{board_at_reset, machine_in, with_machine};
 
 use crate::bus::BoardBus;
 use crate::receiving::place_behind;
 use crate::states::{state_of, takes_steps};
+use def_processor::{Finish, StepEnd};
 use mb_devices::Devices;
 use mb_instr::Plain;
 use mb_model::{Cpu, Outcome, RunState};
 use mb_outside::Memory;
-use mb_processor::{Finish, StepEnd};
 use mb_script::Script;
 use mb_step::{Decoder, Processor, step_in_place};
 use mb_walk::Ram;
@@ -59,7 +59,7 @@ pub(crate) struct Core {
 }
 
 impl Model for Core {
-    ghost use Rattle.mb_machine.specs.Machine.{Machine};
+    ghost use Rattle.def_machine.specs.Machine.{Machine};
 
     ghost Value = { Machine };
 
@@ -100,7 +100,7 @@ impl Model for Board {
 
 impl Core {
     /// Resets all but RAM and the blocks of a disk.
-    #[tactic(auto, unfolding(mb_machine::specs::Machine::reset_with))]
+    #[tactic(auto, unfolding(def_machine::specs::Machine::reset_with))]
     fn reset(&mut self)
         requires { 8 ≤ length self.old.world.ram }
         ensures { self.new ≡ reset_with rule_a (restarted self.old.world.devices) self.old.world.ram }
@@ -177,7 +177,7 @@ impl Core {
 impl Board {
     /// A board with so many bytes of RAM, all 0, and no disk, as it is after reset. It takes all the memory that
     /// it will need.
-    #[tactic(auto, unfolding(mb_machine::specs::Machine::reset_with), using(mb_devices::proofs::Sizes::sizes))]
+    #[tactic(auto, unfolding(def_machine::specs::Machine::reset_with), using(mb_devices::proofs::Sizes::sizes))]
     pub fn new(alloc: Global, size: u32) -> Result<Board, Memory>
         requires { (8 ≤ size) × (size ≤ MOST_BOARD_BYTES) }
         ensures made { IfOk result (λ board.
@@ -226,7 +226,7 @@ impl Board {
 
     /// Resets all but RAM and the blocks of an attached disk: the stack pointer and the program counter come from the
     /// longs at 0 and 4, the devices are idle with an empty console, nothing is kept, and no step is taken.
-    #[tactic(auto, unfolding(mb_machine::specs::Machine::reset_with))]
+    #[tactic(auto, unfolding(def_machine::specs::Machine::reset_with))]
     pub fn reset(&mut self)
         requires { 8 ≤ length self.old.world.ram }
         ensures after { self.new ≡ board_at_reset

@@ -3,8 +3,8 @@
 ghost use Rattle.mb_port.specs.declared.types.Place.{Place};
 ghost use Rattle.mb_port.specs.Pieces.{IsLength};
 ghost use Rattle.mb_model.specs.Keeping.{rule_a};
-ghost use Rattle.mb_machine.specs.World.{World};
-ghost use Rattle.mb_machine.specs.Bus.{bus_of};
+ghost use Rattle.def_machine.specs.World.{World};
+ghost use Rattle.def_machine.specs.Bus.{bus_of};
 ghost use Rattle.mb_board.specs.State.{BoardState};
 ghost use Rattle.mb_board.specs.Beside.{Beside, beside, but_ram};
 

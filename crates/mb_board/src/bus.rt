@@ -4,7 +4,7 @@ ghost use Rattle.std.specs.Prelude.{◌≡◌, ◌+◌, ◌^◌, ◌<◌, ◌≤
 ghost use Rattle.mb_model.specs.Keeping.{rule_a};
 ghost use Rattle.mb_walk.specs.Memory.{overwritten};
 ghost use Rattle.mb_devices.specs.Devices.{idle, level_of, restarted, ticked};
-ghost use Rattle.mb_machine.specs.Machine.{aborts, arrived, world_at_reset};
+ghost use Rattle.def_machine.specs.Machine.{aborts, arrived, world_at_reset};
 ghost use Rattle.mb_board.specs.Arrivals.{IsNext};
 
 use crate::receiving::{Arrival, receive};
@@ -31,7 +31,7 @@ pub struct BoardBus {
 
 impl Model for BoardBus {
     ghost use Rattle.std.specs.Prelude.{◌≡◌, ◌≤◌, vec_len};
-    ghost use Rattle.mb_machine.specs.World.{World};
+    ghost use Rattle.def_machine.specs.World.{World};
     ghost use Rattle.mb_board.specs.declared.bus.TheConstants.{MOST_BOARD_BYTES};
 
     ghost Value = { World };

@@ -3,12 +3,12 @@
 ghost use Rattle.std.specs.Prelude.{ℕ, length};
 ghost use Rattle.mb_port.specs.Pieces.{IsLength};
 ghost use Rattle.mb_model.specs.Keeping.{rule_a};
-ghost use Rattle.mb_machine.specs.World.{World};
-ghost use Rattle.mb_machine.specs.Bus.{bus_of};
+ghost use Rattle.def_machine.specs.World.{World};
+ghost use Rattle.def_machine.specs.Bus.{bus_of};
 
 use crate::bus::BoardBus;
+use def_machine::Reference;
 use mb_instr::ControlRegister;
-use mb_machine::Reference;
 use mb_port::{Fault, Flush, Mmu, MmuReg, Piece, Place, Port, Space};
 
 impl Port for BoardBus {

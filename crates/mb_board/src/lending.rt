@@ -5,7 +5,7 @@ ghost use Rattle.std.specs.Borrow.{Lends, sem};
 ghost use Rattle.mb_devices.specs.contracts.devices.Devices.{the_row as devices_row};
 ghost use Rattle.mb_board.specs.contracts.bus.BoardBus.{the_row as bus_row};
 ghost use Rattle.mb_board.specs.contracts.board.Board.{the_row as board_row};
-ghost use Rattle.mb_machine.specs.Machine.{with_devices};
+ghost use Rattle.def_machine.specs.Machine.{with_devices};
 ghost use Rattle.mb_board.specs.State.{machine_in, with_machine};
 
 use crate::board::Board;

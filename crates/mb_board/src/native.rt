@@ -1,8 +1,8 @@
 //! What a board counts of its runs in user mode.
 
 ghost use Rattle.std.specs.Prelude.{◌≡◌, ◌+◌, ◌^◌, ◌<◌};
-ghost use Rattle.vm_meaning.specs.Marks.{with_spelled};
-ghost use Rattle.vm_meaning.specs.Native.{nothing_counted, with_exception};
+ghost use Rattle.def_runs.specs.Marks.{with_spelled};
+ghost use Rattle.def_runs.specs.Native.{nothing_counted, with_exception};
 ghost use Rattle.mb_board.specs.Spelling.{IsRetired};
 
 use std::marker::Model;
@@ -20,7 +20,7 @@ pub struct Native {
 }
 
 impl Model for Native {
-    ghost use Rattle.vm_meaning.specs.Native.{NativeState};
+    ghost use Rattle.def_runs.specs.Native.{NativeState};
 
     ghost Value = { NativeState };
 

@@ -3,8 +3,8 @@
 ghost use Rattle.std.specs.Prelude.{◌≡◌, ◌+◌, ◌<◌, ◌≤◌, ◌^◌, length, IfSome};
 ghost use Rattle.mb_port.specs.Pieces.{IsLength};
 ghost use Rattle.mb_walk.specs.Memory.{number_at as number_of, with_number};
-ghost use Rattle.mb_machine.specs.World.{World};
-ghost use Rattle.mb_machine.specs.Places.{in_ram, stored, taken, takes_writes, stored_line, taken_line, Stores};
+ghost use Rattle.def_machine.specs.World.{World};
+ghost use Rattle.def_machine.specs.Places.{in_ram, stored, taken, takes_writes, stored_line, taken_line, Stores};
 ghost use Rattle.mb_board.specs.Beside.{without_ram};
 
 use crate::bus::BoardBus;
@@ -42,7 +42,7 @@ impl BoardBus {
 
     /// Reads RAM or a register. `None` where nothing answers the read, and nothing has changed.
     #[inline(always)]
-    #[tactic(auto, using(mb_machine::proofs::BusLemmas::reads))]
+    #[tactic(auto, using(def_machine::proofs::BusLemmas::reads))]
     pub fn take(&mut self, place: Place) -> Option<u32>
         requires size { IsLength place.len }
         ensures taken { (result, self.new) ≡ taken place self.old }
@@ -58,7 +58,7 @@ impl BoardBus {
 
     /// Writes RAM or a register. `None` where nothing takes the write, and nothing has changed.
     #[inline(always)]
-    #[tactic(auto, using(mb_machine::proofs::BusLemmas::writes))]
+    #[tactic(auto, using(def_machine::proofs::BusLemmas::writes))]
     pub fn store(&mut self, place: Place, value: u32) -> Option<()>
         requires size { IsLength place.len }
         ensures stored { Stores (stored place value self.old) self.old self.new result }
@@ -73,7 +73,7 @@ impl BoardBus {
     }
 
     /// Whether RAM or a register takes a write.
-    #[tactic(auto, using(mb_machine::proofs::BusLemmas::takes))]
+    #[tactic(auto, using(def_machine::proofs::BusLemmas::takes))]
     pub fn takes_writes(&self, place: Place) -> bool
         ensures { result ≡ takes_writes self.now place }
     {

@@ -1,8 +1,8 @@
 //! What arrives at a step by a script.
 
 ghost use Rattle.std.specs.Prelude.{◌≡◌, ◌+◌, ◌<◌, ◌^◌, ◌||◌, false};
-ghost use Rattle.mb_machine.specs.Machine.{aborts, arrived, is_abort, taken_in};
-ghost use Rattle.vm_meaning.specs.Batches.{IsQuietAt};
+ghost use Rattle.def_machine.specs.Machine.{aborts, arrived, is_abort, taken_in};
+ghost use Rattle.def_runs.specs.Batches.{IsQuietAt};
 ghost use Rattle.mb_board.specs.Arrivals.{IsNext};
 
 use mb_devices::Devices;

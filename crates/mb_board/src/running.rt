@@ -2,7 +2,7 @@
 
 ghost use Rattle.std.specs.Prelude.{◌≡◌, ◌+◌, ◌^◌, ◌<◌, length, false};
 ghost use Rattle.mb_instr.specs.Registers.{is_supervisor, plain_of};
-ghost use Rattle.vm_meaning.specs.Native.{EndsBy, about_to_run, ended_by, ran_by, user_run, user_step, with_step};
+ghost use Rattle.def_runs.specs.Native.{EndsBy, about_to_run, ended_by, ran_by, user_run, user_step, with_step};
 ghost use Rattle.mb_board.specs.Fits.{FitsAlong};
 ghost use Rattle.mb_board.specs.Spelling.{Spell};
 ghost use Rattle.mb_board.specs.State.{ran_to, run_from};
@@ -10,10 +10,10 @@ ghost use Rattle.mb_board.specs.State.{ran_to, run_from};
 use crate::board::{Board, Core, NATIVE};
 use crate::native::Native;
 use crate::spelling::spelling;
+use def_processor::Finish;
+use def_runs::RunEnd;
 use mb_instr::Plain;
 use mb_model::RunState;
-use mb_processor::Finish;
-use vm_meaning::RunEnd;
 
 impl Core {
     /// How a run in user mode ends with a step that ended so, or that it goes on.

@@ -1,7 +1,7 @@
 //! What registers spell: the digits of a number in base 31.
 
 ghost use Rattle.std.specs.Prelude.{◌≡◌, ◌<◌, ◌^◌, length, All};
-ghost use Rattle.vm_meaning.specs.Marks.{sum_with_all};
+ghost use Rattle.def_runs.specs.Marks.{sum_with_all};
 ghost use Rattle.mb_board.specs.Spelling.{Spell};
 
 use mb_instr::Plain;

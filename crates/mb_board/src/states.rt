@@ -2,11 +2,11 @@
 
 ghost use Rattle.std.specs.Prelude.{◌≡◌};
 ghost use Rattle.mb_model.specs.declared.processor.Cpu.{Cpu};
-ghost use Rattle.mb_machine.specs.Machine.{state_after, takes_steps};
+ghost use Rattle.def_machine.specs.Machine.{state_after, takes_steps};
 
+use def_processor::Finish;
 use mb_devices::Devices;
 use mb_model::{Cpu, RunState};
-use mb_processor::Finish;
 
 /// Whether a machine in this state takes a step: one that is halted or switched off takes none.
 pub fn takes_steps(state: RunState) -> bool

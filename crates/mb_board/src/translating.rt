@@ -4,13 +4,13 @@ ghost use Rattle.std.specs.Prelude.{◌≡◌, ◌<◌, ◌^◌, length, IfSome,
 ghost use Rattle.mb_port.specs.Pieces.{IsPiece};
 ghost use Rattle.mb_model.specs.Keeping.{after_ptest, rule_a};
 ghost use Rattle.mb_model.specs.Pages.{page_of as page_number};
-ghost use Rattle.mb_machine.specs.Access.{searched, translated};
-ghost use Rattle.mb_machine.specs.Bus.{tested};
-ghost use Rattle.mb_machine.specs.Places.{in_ram};
+ghost use Rattle.def_machine.specs.Access.{searched, translated};
+ghost use Rattle.def_machine.specs.Bus.{tested};
+ghost use Rattle.def_machine.specs.Places.{in_ram};
 ghost use Rattle.mb_mmu.specs.Sound.{IsAccess};
 
 use crate::bus::BoardBus;
-use mb_machine::{MMUSR_MATCHED, Reference, Settled, root, through};
+use def_machine::{MMUSR_MATCHED, Reference, Settled, root, through};
 use mb_model::{has_big_pages, other_half, page_of};
 use mb_port::{Flush, Place, Space};
 use mb_walk::{Found, search, transparent};
@@ -42,7 +42,7 @@ impl BoardBus {
 
     /// The physical address that a reference leads to. `None` where it is refused.
     #[inline(always)]
-    #[tactic(auto, unfolding(mb_machine::specs::Access::translated))]
+    #[tactic(auto, unfolding(def_machine::specs::Access::translated))]
     pub fn translated(&mut self, r: Reference) -> Option<u32>
         requires { IsAccess r }
         ensures means { (result, self.new) ≡ translated rule_a r self.old }
@@ -57,7 +57,7 @@ impl BoardBus {
 
     /// Where in RAM so many bytes stand that a reference is known to lead to. `None` says nothing.
     #[inline(always)]
-    #[tactic(auto, unfolding(mb_machine::specs::Access::translated))]
+    #[tactic(auto, unfolding(def_machine::specs::Access::translated))]
     pub fn found_at_once(&self, r: Reference, len: u8) -> Option<usize>
         requires access { IsAccess r }
         requires piece { IsPiece (record { at = r.at; len = len }) }

@@ -2,8 +2,8 @@
 use Rattle.std.proofs.Common.{◌≡◌}
 use Rattle.mb_port.specs.declared.types.Fault.{Fault}
 use Rattle.mb_model.specs.declared.processor.Cpu.{Cpu}
-use Rattle.mb_processor.specs.declared.entering.Entered.{Entered}
-use Rattle.mb_processor.specs.declared.entering.Entered.TheVariants as entered
+use Rattle.def_processor.specs.declared.entering.Entered.{Entered}
+use Rattle.def_processor.specs.declared.entering.Entered.TheVariants as entered
 use Rattle.mb_entry.specs.Clauses.{IfFaulted, IfHalted, LeavesCpu}
 
 pub of_the_fault : (e : Entered) (fault : Fault) (P : Fault → Type 0) → IfFaulted e (λ other. other ≡ fault) → P fault → IfFaulted e P

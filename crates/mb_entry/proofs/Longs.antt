@@ -7,7 +7,7 @@ use Rattle.mb_instr.specs.Sizes.{bytes_of}
 use Rattle.mb_ea.specs.declared.reading.ReadFault.{ReadFault}
 use Rattle.mb_ea.specs.Addresses.{sum}
 use Rattle.mb_ea.specs.Reading.{read_operand_of}
-use Rattle.mb_processor.specs.Return.{read_longs_of}
+use Rattle.def_processor.specs.Return.{read_longs_of}
 
 abbrev pub LongRead : {S : Type 0} → Bus S → ℕ → S → Result ℕ ReadFault → S → Type 0
 LongRead bus at s answer t = run bus (read_operand_of Super at (bytes_of Long)) s ≡ (answer, t)

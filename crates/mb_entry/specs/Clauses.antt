@@ -11,10 +11,10 @@ use Rattle.mb_ea.specs.Addresses.{sum}
 use Rattle.mb_ea.specs.Reading.{read_operand_of}
 use Rattle.mb_writes.specs.declared.ends.Ended.{Ended}
 use Rattle.mb_writes.specs.declared.ends.Ended.TheVariants as ended
-use Rattle.mb_processor.specs.declared.entering.Cause.{Cause}
-use Rattle.mb_processor.specs.declared.entering.Entered.{Entered}
-use Rattle.mb_processor.specs.declared.entering.Entered.TheVariants as entered
-use Rattle.mb_processor.specs.Entry.{Places, frames_of, handler_regs, check_frames_of, put_frames_of}
+use Rattle.def_processor.specs.declared.entering.Cause.{Cause}
+use Rattle.def_processor.specs.declared.entering.Entered.{Entered}
+use Rattle.def_processor.specs.declared.entering.Entered.TheVariants as entered
+use Rattle.def_processor.specs.Entry.{Places, frames_of, handler_regs, check_frames_of, put_frames_of}
 
 -- Where an entry was carried out, SR and the stacks are as its frames leave them, and PC alone is the handler's. Where
 -- a check was refused no register changed.

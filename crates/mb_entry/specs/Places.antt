@@ -3,7 +3,7 @@ use Rattle.std.specs.Prelude.{List, length, Option, Some, None, Result, Ok, Err}
 use Rattle.mb_port.specs.declared.types.Place.{Place}
 use Rattle.mb_port.specs.declared.types.Fault.{Fault}
 use Rattle.mb_writes.specs.Checked.{AreOpen}
-use Rattle.mb_processor.specs.Entry as entry
+use Rattle.def_processor.specs.Entry as entry
 use Rattle.mb_entry.specs.declared.stacking.Stacked.{Stacked}
 use Rattle.mb_entry.specs.declared.places.Places.{Places}
 

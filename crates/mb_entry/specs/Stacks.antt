@@ -1,6 +1,6 @@
 -- What is stacked, as the definitions see it.
 use Rattle.std.specs.Prelude.{Option, Some, None}
-use Rattle.mb_processor.specs.Entry as entry
+use Rattle.def_processor.specs.Entry as entry
 use Rattle.mb_entry.specs.declared.stacking.Stacked.{Stacked}
 use Rattle.mb_entry.specs.declared.stacking.Frames.{Frames}
 

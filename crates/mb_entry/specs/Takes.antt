@@ -6,8 +6,8 @@ use Rattle.mb_writes.specs.declared.ends.Ended.{Ended}
 use Rattle.mb_instr.specs.declared.registers.Regs.{Regs}
 use Rattle.mb_frames.specs.declared.frame.Access.{Access}
 use Rattle.mb_writes.specs.Transfers.{count_of, mask_in}
-use Rattle.mb_processor.specs.Return as return
-use Rattle.mb_processor.specs.Return.{continues}
+use Rattle.def_processor.specs.Return as return
+use Rattle.def_processor.specs.Return.{continues}
 use Rattle.mb_entry.specs.declared.taking.Head.{Head}
 
 abbrev pub head_seen : Head → return.Head

@@ -2,16 +2,16 @@
 
 ghost use Rattle.std.specs.Prelude.{◌≡◌, ◌<◌, false, IsSome};
 ghost use Rattle.mb_port.specs.Routine.{run};
-ghost use Rattle.mb_processor.specs.Entry.{frames_of, check_frames_of, go_to_handler_of, unstacked, enter_of};
+ghost use Rattle.def_processor.specs.Entry.{frames_of, check_frames_of, go_to_handler_of, unstacked, enter_of};
 ghost use Rattle.mb_entry.specs.Clauses.{RegsAfter, LeavesCpu, IfFaulted, IfHalted, IsUnread, IsDoubleFault};
 
 use crate::places::{check_frames, put_frames};
 use crate::stacking::{frames_for, offset, set_handler_regs};
+use def_processor::{Cause, Entered};
 use mb_ea::read_value;
 use mb_instr::Size;
 use mb_model::Cpu;
 use mb_port::{Fault, Port, Space};
-use mb_processor::{Cause, Entered};
 
 /// What follows where a check of the frame was refused.
 fn unstacked(fault: Fault, cause: &Cause, cpu: &mut Cpu) -> Entered

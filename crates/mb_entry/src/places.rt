@@ -4,7 +4,7 @@ ghost use Rattle.std.specs.Prelude.{◌≡◌, ◌≤◌, ◌+◌, length, All, 
 ghost use Rattle.mb_port.specs.Routine.{run};
 ghost use Rattle.mb_port.specs.Pieces.{IsLength, cut};
 ghost use Rattle.mb_writes.specs.Checked.{probe_pieces_of, byte_count, probed, located, IsOpen, AreOpen};
-ghost use Rattle.mb_processor.specs.Entry.{probe_frame_of, probe_second_of, put_bytes_of, put_second_of, check_frames_of, put_frames_of};
+ghost use Rattle.def_processor.specs.Entry.{probe_frame_of, probe_second_of, put_bytes_of, put_second_of, check_frames_of, put_frames_of};
 ghost use Rattle.mb_entry.specs.Stacks.{seen, seen_second, frames_seen};
 ghost use Rattle.byteorder.specs.Endian.{big_number};
 ghost use Rattle.mb_entry.specs.Places.{places_seen, placed, Covers};

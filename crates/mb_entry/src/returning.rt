@@ -3,7 +3,7 @@
 ghost use Rattle.std.specs.Prelude.{◌≡◌, ◌≤◌};
 ghost use Rattle.mb_port.specs.Routine.{run};
 ghost use Rattle.mb_writes.specs.Transfers.{count_of, mask_in};
-ghost use Rattle.mb_processor.specs.Return.{go_on_of, return_from_of, returning, holding};
+ghost use Rattle.def_processor.specs.Return.{go_on_of, return_from_of, returning, holding};
 ghost use Rattle.mb_entry.specs.Clauses.{ReturnEnds, WentOn};
 
 use crate::taking::{continues, take_frames};

@@ -2,16 +2,16 @@
 
 ghost use Rattle.std.specs.Prelude.{◌≡◌, ◌*◌, ◌<◌};
 ghost use Rattle.mb_frames.specs.Layout.{vector_offset_of};
-ghost use Rattle.mb_processor.specs.Entry.{frame_of, throwaway_of, stacked, handler_stack, with_handler_stack};
-ghost use Rattle.mb_processor.specs.Entry.{frames_of, handler_regs};
+ghost use Rattle.def_processor.specs.Entry.{frame_of, throwaway_of, stacked, handler_stack, with_handler_stack};
+ghost use Rattle.def_processor.specs.Entry.{frames_of, handler_regs};
 ghost use Rattle.mb_entry.specs.Stacks.{seen, frames_seen};
 
 use crate::status::{handler_status, thrown_status, without_master};
 use arrayvec::ArrayVec;
+use def_processor::Cause;
 use mb_frames::{Frame, LONGEST, to_bytes};
 use mb_instr::Regs;
 use mb_instr::vectors::{CONDITION_MET, ODD_COUNTER, OUT_OF_BOUNDS, TRACE, ZERO_DIVIDE};
-use mb_processor::Cause;
 
 /// The bytes of a frame, and the logical address of the lowest.
 #[derive(Drop)]
@@ -103,7 +103,7 @@ fn set_handler_stack(regs: &mut Regs, top: u32)
 }
 
 /// The frames of a cause. PC is the one that is stacked.
-#[tactic(auto, unfolding(mb_processor::specs::Entry::frames_of))]
+#[tactic(auto, unfolding(def_processor::specs::Entry::frames_of))]
 pub(crate) fn frames_for(cause: &Cause, regs: &Regs) -> Frames
     ensures { frames_seen result ≡ frames_of cause.now regs.now }
 {

@@ -1,10 +1,10 @@
 //! The status register in an entry.
 
 ghost use Rattle.std.specs.Prelude.{◌≡◌, ◌<◌};
-ghost use Rattle.mb_processor.specs.Entry.{supervised, without_master, with_mask, handler_sr, thrown_sr};
+ghost use Rattle.def_processor.specs.Entry.{supervised, without_master, with_mask, handler_sr, thrown_sr};
 
+use def_processor::Cause;
 use mb_instr::{MASTER, SUPERVISOR};
-use mb_processor::Cause;
 
 /// With S set, T1 and T0 cleared.
 fn supervised(sr: u16) -> u16

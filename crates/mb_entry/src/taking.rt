@@ -3,9 +3,9 @@
 ghost use Rattle.std.specs.Prelude.{◌≡◌, [], length, IfOk, IfErr};
 ghost use Rattle.mb_port.specs.Routine.{run};
 ghost use Rattle.mb_frames.specs.Layout.{frame_length};
-ghost use Rattle.mb_processor.specs.Return.{read_head_of, read_longs_of, access_longs, access_of_longs, continues, is_movem};
-ghost use Rattle.mb_processor.specs.Return.{are_movem_words, can_continue, high, low, drop_bytes_of, restore_of, take_access_of, take_frame_of};
-ghost use Rattle.mb_processor.specs.Return.{take_second_of, take_throwaway_of, take_frames_of};
+ghost use Rattle.def_processor.specs.Return.{read_head_of, read_longs_of, access_longs, access_of_longs, continues, is_movem};
+ghost use Rattle.def_processor.specs.Return.{are_movem_words, can_continue, high, low, drop_bytes_of, restore_of, take_access_of, take_frame_of};
+ghost use Rattle.def_processor.specs.Return.{take_second_of, take_throwaway_of, take_frames_of};
 ghost use Rattle.mb_entry.specs.Takes.{head_seen, headed, longs_read, took, CanGoOn};
 ghost use Rattle.mb_entry.specs.Clauses.{NotTaken};
 
@@ -93,7 +93,7 @@ fn low(long: u32) -> u16
 }
 
 /// The fields of an access error in their longs.
-#[tactic(auto, unfolding(mb_processor::specs::Return::access_of_longs))]
+#[tactic(auto, unfolding(def_processor::specs::Return::access_of_longs))]
 fn access_from(longs: &[u32]) -> Access
     requires { length longs.now ≡ 13 }
     ensures { result ≡ access_of_longs longs.now }

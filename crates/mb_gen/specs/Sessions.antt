@@ -1,8 +1,8 @@
 -- The session that a seed makes.
 use Rattle.std.specs.Prelude.{◌≡◌, ℕ, zero, suc, ◌+◌, ◌*◌, List, [], ◌∷◌, sum_by}
-use Rattle.mb_machine.specs.Machine.{diskless}
+use Rattle.def_machine.specs.Machine.{diskless}
 use Rattle.vm_shadow.specs.declared.area.TheConstants.{AREA_BYTES}
-use Rattle.vm_machine.specs.declared.limits.TheConstants.{MONITOR_BYTES}
+use Rattle.def_guests.specs.declared.limits.TheConstants.{MONITOR_BYTES}
 use Rattle.vm_guest.specs.Session.{GuestAtStart, SessionAtStart}
 use Rattle.mb_gen.specs.declared.session.TheConstants.{GUEST_BYTES, RAM, SLICE, STEPS}
 use Rattle.mb_gen.specs.Draws.{Generator, draws, after, seeded}

@@ -10,12 +10,12 @@ ghost use Rattle.mb_gen.specs.declared.program.TheConstants.{PICKS};
 
 use crate::draws::seeded;
 use crate::program::image;
+use def_guests::MONITOR_BYTES;
 use mb_outside::Memory;
 use mb_script::Script;
 use rand_pcg::Lcg64Xsh32;
 use std::alloc::{AllocError, Global};
 use vm_guest::{Session, SessionGuest};
-use vm_machine::MONITOR_BYTES;
 use vm_shadow::AREA_BYTES;
 
 /// The bytes of a guest's RAM.

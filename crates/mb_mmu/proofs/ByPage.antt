@@ -7,10 +7,10 @@ use Rattle.mb_model.specs.declared.kept.Kept.{Kept}
 use Rattle.mb_model.specs.Keeping.{Rule, KeptLists, entry_for, rule_a}
 use Rattle.mb_model.specs.Pages.{page_of, offset_of}
 use Rattle.mb_model.specs.declared.pages.TheConstants.{PAGE_SIZE}
-use Rattle.mb_machine.specs.declared.reference.Reference.{Reference}
-use Rattle.mb_machine.specs.declared.reference.Settled.{Settled}
-use Rattle.mb_machine.specs.declared.reference.Settled.TheVariants.{To, Refused, Unsettled}
-use Rattle.mb_machine.specs.Access.{matched, or_off, untranslated, admits, marks, in_frame, known, by_entry, by_match, settled, LeadsTo}
+use Rattle.def_machine.specs.declared.reference.Reference.{Reference}
+use Rattle.def_machine.specs.declared.reference.Settled.{Settled}
+use Rattle.def_machine.specs.declared.reference.Settled.TheVariants.{To, Refused, Unsettled}
+use Rattle.def_machine.specs.Access.{matched, or_off, untranslated, admits, marks, in_frame, known, by_entry, by_match, settled, LeadsTo}
 use Rattle.mb_mmu.specs.State.{Translation, settled_by}
 use Rattle.mb_mmu.specs.declared.micro_tlb.Entry.{Entry}
 use Rattle.mb_mmu.specs.MicroTlb.{entry_to, place_by}

@@ -6,10 +6,10 @@ use Rattle.mb_port.specs.declared.types.Space.{Space}
 use Rattle.mb_port.specs.declared.types.Space.TheVariants.{User}
 use Rattle.mb_model.specs.Keeping.{Rule, KeptLists, entry_for}
 use Rattle.mb_walk.specs.Transparent.{transparent_of, transparent_register, matches}
-use Rattle.mb_machine.specs.declared.reference.Reference.{Reference}
-use Rattle.mb_machine.specs.declared.reference.Settled.TheVariants.{To}
+use Rattle.def_machine.specs.declared.reference.Reference.{Reference}
+use Rattle.def_machine.specs.declared.reference.Settled.TheVariants.{To}
 use Rattle.mb_model.specs.Pages.{page_of}
-use Rattle.mb_machine.specs.Access.{untranslated, settled, matched, or_off, by_match, by_entry, is_translating}
+use Rattle.def_machine.specs.Access.{untranslated, settled, matched, or_off, by_match, by_entry, is_translating}
 use Rattle.mb_mmu.specs.declared.modes.Mode.{Mode}
 use Rattle.mb_mmu.specs.declared.modes.Mode.TheVariants.{Direct, Tables, UserTables, Registers}
 use Rattle.mb_mmu.specs.Modes.{is_enabled, has_transparent, is_off, serves_user, has_user, mode_by, mode_of}

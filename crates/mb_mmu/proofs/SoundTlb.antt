@@ -9,8 +9,8 @@ use Rattle.mb_port.specs.declared.types.Space.TheVariants.{User, Super}
 use Rattle.mb_model.specs.declared.kept.Kept.{Kept}
 use Rattle.mb_model.specs.Keeping.{KeptLists, entry_for as kept_for, entry_in as kept_in, filled, filled_in, list_of, rule_a}
 use Rattle.mb_model.specs.Pages.{page_of}
-use Rattle.mb_machine.specs.declared.reference.Reference.{Reference}
-use Rattle.mb_machine.specs.Access.{by_entry, by_match, untranslated}
+use Rattle.def_machine.specs.declared.reference.Reference.{Reference}
+use Rattle.def_machine.specs.Access.{by_entry, by_match, untranslated}
 use Rattle.mb_mmu.specs.declared.micro_tlb.Entry.{Entry}
 use Rattle.mb_mmu.specs.declared.micro_tlb.Entries.{Entries}
 use Rattle.mb_mmu.specs.declared.micro_tlb.MicroTlb.{MicroTlb}

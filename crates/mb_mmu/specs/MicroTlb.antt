@@ -4,7 +4,7 @@ use Rattle.std.specs.Prelude.{List, replicate, slice_index_or, slice_set, Option
 use Rattle.mb_port.specs.declared.types.Space.{Space}
 use Rattle.mb_port.specs.declared.types.Space.TheVariants.{User, Super}
 use Rattle.mb_model.specs.Pages.{page_of}
-use Rattle.mb_machine.specs.declared.reference.Reference.{Reference}
+use Rattle.def_machine.specs.declared.reference.Reference.{Reference}
 use Rattle.mb_mmu.specs.declared.micro_tlb.Entry.{Entry}
 use Rattle.mb_mmu.specs.declared.micro_tlb.Entries.{Entries}
 use Rattle.mb_mmu.specs.declared.micro_tlb.MicroTlb.{MicroTlb}

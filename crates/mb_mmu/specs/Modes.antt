@@ -1,7 +1,7 @@
 -- How a memory management unit translates.
 use Rattle.std.specs.Prelude.{ℕ, ◌/◌, ◌%◌, ◌^◌, ◌==◌, ◌||◌, ◌&&◌, Bool, true, false, not}
 use Rattle.mb_port.specs.declared.types.Mmu.{Mmu}
-use Rattle.mb_machine.specs.Access.{is_translating}
+use Rattle.def_machine.specs.Access.{is_translating}
 use Rattle.mb_mmu.specs.declared.modes.Mode.{Mode}
 use Rattle.mb_mmu.specs.declared.modes.Mode.TheVariants.{Direct, Tables, UserTables, Registers}
 

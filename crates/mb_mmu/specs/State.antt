@@ -3,9 +3,9 @@ use Rattle.std.specs.Prelude.{ℕ}
 use Rattle.mb_port.specs.declared.types.Mmu.{Mmu}
 use Rattle.mb_model.specs.Keeping.{KeptLists, nothing_kept, rule_a}
 use Rattle.mb_model.specs.Reset.{mmu_at_reset}
-use Rattle.mb_machine.specs.declared.reference.Reference.{Reference}
-use Rattle.mb_machine.specs.declared.reference.Settled.{Settled}
-use Rattle.mb_machine.specs.Access.{settled}
+use Rattle.def_machine.specs.declared.reference.Reference.{Reference}
+use Rattle.def_machine.specs.declared.reference.Settled.{Settled}
+use Rattle.def_machine.specs.Access.{settled}
 
 -- its registers, and the translations that it keeps by the board's rule
 pub record Translation : Type 0 where

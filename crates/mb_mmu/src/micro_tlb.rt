@@ -4,7 +4,7 @@ ghost use Rattle.std.specs.Prelude.{◌≡◌};
 ghost use Rattle.mb_mmu.specs.MicroTlb.{entries_for, entry_for, entry_in, entry_to, none, nothing, place_by, with_entry, with_in};
 ghost use Rattle.mb_mmu.specs.MicroTlb.{without_page, without_page_in};
 
-use mb_machine::Reference;
+use def_machine::Reference;
 use mb_model::page_of;
 use mb_port::Space;
 

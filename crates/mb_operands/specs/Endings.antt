@@ -4,7 +4,7 @@ use Rattle.mb_port.specs.Routine.{other_fault}
 use Rattle.mb_instr.specs.declared.registers.Plain.{Plain}
 use Rattle.mb_writes.specs.declared.ends.Ended.{Ended}
 use Rattle.mb_writes.specs.declared.ends.Ended.TheVariants as ends
-use Rattle.mb_meaning.specs.Ends.{OtherEnd, Performed, Cut, Unread, Stop, Rowed, restored, went, carried}
+use Rattle.def_instructions.specs.Ends.{OtherEnd, Performed, Cut, Unread, Stop, Rowed, restored, went, carried}
 use Rattle.mb_operands.specs.declared.endings.Undone.{Undone}
 
 -- what it answered, with that end

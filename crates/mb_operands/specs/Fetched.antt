@@ -6,8 +6,8 @@ use Rattle.mb_instr.specs.Sizes.{values_of}
 use Rattle.mb_ea.specs.declared.reading.ReadFault.{ReadFault}
 use Rattle.mb_ea.specs.Addresses.{IsTarget}
 use Rattle.mb_writes.specs.declared.ends.Ended.{Ended}
-use Rattle.mb_meaning.specs.Ends.{OtherEnd, Cut}
-use Rattle.mb_meaning.specs.Operands.{Fetched}
+use Rattle.def_instructions.specs.Ends.{OtherEnd, Cut}
+use Rattle.def_instructions.specs.Operands.{Fetched}
 use Rattle.mb_operands.specs.declared.operands.Operand.{Operand}
 use Rattle.mb_operands.specs.declared.endings.Undone.{Undone}
 use Rattle.mb_operands.specs.Endings.{cut_by}

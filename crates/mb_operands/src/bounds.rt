@@ -3,8 +3,8 @@
 ghost use Rattle.std.specs.Prelude.{◌≡◌, ◌<◌};
 ghost use Rattle.mb_port.specs.Routine.{run};
 ghost use Rattle.mb_instr.specs.Operands.{IsEa, IsInMemory};
-ghost use Rattle.mb_meaning.specs.Bounds.{compared_size, above};
-ghost use Rattle.mb_meaning.specs.Bounds.{bounds_codes, compared, compare_bounds_of};
+ghost use Rattle.def_instructions.specs.Bounds.{compared_size, above};
+ghost use Rattle.def_instructions.specs.Bounds.{bounds_codes, compared, compare_bounds_of};
 
 use crate::operands::{find_address, named_register};
 use crate::stream::Stream;

@@ -1,7 +1,7 @@
 //! The sixteen conditions.
 
 ghost use Rattle.std.specs.Prelude.{◌≡◌};
-ghost use Rattle.mb_meaning.specs.Conditions.{is_less, is_met};
+ghost use Rattle.def_instructions.specs.Conditions.{is_less, is_met};
 
 use mb_alu::Conditions;
 use mb_instr::Condition;

@@ -5,7 +5,7 @@
 
 ghost use Rattle.std.specs.Prelude.{◌≡◌, true};
 ghost use Rattle.mb_writes.specs.declared.ends.Ended.TheVariants as ends;
-ghost use Rattle.mb_meaning.specs.Ends.{closed};
+ghost use Rattle.def_instructions.specs.Ends.{closed};
 ghost use Rattle.mb_operands.specs.Endings.{is_unread, performed_in_place};
 
 use mb_ea::ReadFault;

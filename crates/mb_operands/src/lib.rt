@@ -1,7 +1,7 @@
 //! Operands as instructions use them, the sixteen conditions, and comparisons with bounds.
 //!
 //! What reads, writes and pushes operands is here once, for the instructions of all families. Each function does
-//! what its routine of `mb_meaning` does, whatever the bus.
+//! what its routine of `def_instructions` does, whatever the bus.
 #![tactic(auto)]
 
 mod bounds;

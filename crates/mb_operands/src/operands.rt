@@ -6,8 +6,8 @@ ghost use Rattle.mb_instr.specs.Sizes.{values_of};
 ghost use Rattle.mb_instr.specs.Operands.{IsEa, IsInMemory, IsDestination};
 ghost use Rattle.mb_instr.specs.FurtherWords.{register_word};
 ghost use Rattle.mb_ea.specs.Addresses.{IsTarget, IsMemory, IsPlace};
-ghost use Rattle.mb_meaning.specs.Operands.{behind_of, with_low, load_of, fetch_operand_of, find_address_of};
-ghost use Rattle.mb_meaning.specs.Operands.{place_of, finish_with_of, push_of};
+ghost use Rattle.def_instructions.specs.Operands.{behind_of, with_low, load_of, fetch_operand_of, find_address_of};
+ghost use Rattle.def_instructions.specs.Operands.{place_of, finish_with_of, push_of};
 ghost use Rattle.mb_operands.specs.Fetched.{fetched, pushed, IsOperand};
 ghost use Rattle.mb_operands.specs.Endings.{IsUnfinished, carried_by};
 

@@ -9,7 +9,7 @@ use Rattle.std.proofs.Math.Nat.{mod-eq_of_lt, add-mul}
 use Rattle.std.proofs.Math.Pow.{pow_mono}
 use Rattle.std.specs.Int.{from_bool}
 use Rattle.mb_instr.specs.Sizes.{is_set}
-use Rattle.mb_meaning.specs.Bits.{with_bit_as}
+use Rattle.def_instructions.specs.Bits.{with_bit_as}
 
 low_or : (r : ℕ) → r < 2 → bit_or r 1 ≡ 1
 low_or zero h = refl

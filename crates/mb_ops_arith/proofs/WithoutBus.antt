@@ -15,11 +15,11 @@ use Rattle.mb_alu.specs.Sums.{compare_of}
 use Rattle.mb_ea.specs.declared.addresses.Target.{Target}
 use Rattle.mb_ea.specs.declared.addresses.Target.TheVariants.{Reg, Value}
 use Rattle.mb_ea.specs.Resolve.{resolve_of}
-use Rattle.mb_meaning.specs.Ends.{Rowed, carried}
-use Rattle.mb_meaning.specs.Operands.{behind_of, fetch_operand_of}
-use Rattle.mb_meaning.specs.Arithmetic.{combine_of, compare_pair_of, take_of}
-use Rattle.mb_meaning.specs.Modifying.{modify_of}
-use Rattle.mb_meaning.specs.Unary.{put_in_register_of}
+use Rattle.def_instructions.specs.Ends.{Rowed, carried}
+use Rattle.def_instructions.specs.Operands.{behind_of, fetch_operand_of}
+use Rattle.def_instructions.specs.Arithmetic.{combine_of, compare_pair_of, take_of}
+use Rattle.def_instructions.specs.Modifying.{modify_of}
+use Rattle.def_instructions.specs.Unary.{put_in_register_of}
 use Rattle.mb_ops_arith.specs.AtHand.{IsAtHand}
 
 is_data : (n : ℕ) → n < 8 → nat_lt n 8 ≡ true

@@ -4,12 +4,12 @@ use Rattle.mb_instr.specs.declared.size.Size.{Size}
 use Rattle.mb_alu.specs.declared.conditions.Flagged.{Flagged}
 use Rattle.mb_alu.specs.Logic.{logic_of}
 use Rattle.mb_ea.specs.Addresses.{sum, difference}
-use Rattle.mb_meaning.specs.Arithmetic.{added, subtracted, added_extended, subtracted_extended}
-use Rattle.mb_meaning.specs.Unary.{negated, negated_extended, complemented}
-use Rattle.mb_meaning.specs.Shifts.{shifted_by_one}
-use Rattle.mb_meaning.specs.Decimals.{negate_decimal_of}
-use Rattle.mb_meaning.specs.Bits.{change_bit_of}
-use Rattle.mb_meaning.specs.Locked.{test_and_set_of}
+use Rattle.def_instructions.specs.Arithmetic.{added, subtracted, added_extended, subtracted_extended}
+use Rattle.def_instructions.specs.Unary.{negated, negated_extended, complemented}
+use Rattle.def_instructions.specs.Shifts.{shifted_by_one}
+use Rattle.def_instructions.specs.Decimals.{negate_decimal_of}
+use Rattle.def_instructions.specs.Bits.{change_bit_of}
+use Rattle.def_instructions.specs.Locked.{test_and_set_of}
 use Rattle.mb_ops_arith.specs.declared.operations.Sum.{Sum}
 use Rattle.mb_ops_arith.specs.declared.operations.Sum.TheVariants.{Add, Subtract}
 use Rattle.mb_ops_arith.specs.declared.operations.Operation.{Operation}

@@ -2,10 +2,10 @@
 use Rattle.std.specs.Prelude.{ℕ, ⊤, ◌<◌}
 use Rattle.mb_instr.specs.declared.size.Size.{Size}
 use Rattle.mb_instr.specs.declared.registers.Plain.{Plain}
-use Rattle.mb_meaning.specs.Ends.{Rowed}
-use Rattle.mb_meaning.specs.Arithmetic.{address_moved, address_compared}
-use Rattle.mb_meaning.specs.Unary.{tst_effect}
-use Rattle.mb_meaning.specs.Products.{multiply_word_of, divide_word_of, multiply_long_of, divide_long_of}
+use Rattle.def_instructions.specs.Ends.{Rowed}
+use Rattle.def_instructions.specs.Arithmetic.{address_moved, address_compared}
+use Rattle.def_instructions.specs.Unary.{tst_effect}
+use Rattle.def_instructions.specs.Products.{multiply_word_of, divide_word_of, multiply_long_of, divide_long_of}
 use Rattle.mb_ops_arith.specs.Changes.{moved_of}
 use Rattle.mb_ops_arith.specs.declared.taking.Effect.{Effect}
 use Rattle.mb_ops_arith.specs.declared.taking.Effect.TheVariants as effect

@@ -2,7 +2,7 @@
 use Rattle.std.specs.Prelude.{Result, Ok, Err}
 use Rattle.mb_instr.specs.declared.registers.Plain.{Plain}
 use Rattle.mb_ea.specs.declared.reading.ReadFault.{ReadFault}
-use Rattle.mb_meaning.specs.Arithmetic.{Pair}
+use Rattle.def_instructions.specs.Arithmetic.{Pair}
 use Rattle.mb_ops_arith.specs.declared.pairs.Pair.{Pair as ReadPair}
 
 -- what was read, with the registers after it

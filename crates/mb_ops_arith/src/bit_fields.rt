@@ -4,10 +4,10 @@ ghost use Rattle.std.specs.Prelude.{◌≡◌, ◌<◌, ◌≤◌, ◌+◌, ◌-
 ghost use Rattle.mb_port.specs.Routine.{run};
 ghost use Rattle.mb_instr.specs.Operands.{IsEa, IsData};
 ghost use Rattle.mb_instr.specs.FurtherWords.{field_word};
-ghost use Rattle.mb_meaning.specs.BitFields.{field_offset_of, width_bits, field_width_of, is_change, field_after};
-ghost use Rattle.mb_meaning.specs.BitFields.{field_flags, field_seen, field_signed, with_result, field_done};
-ghost use Rattle.mb_meaning.specs.BitFields.{field_in_register_of, field_in_memory_of, bytes_before, bytes_held};
-ghost use Rattle.mb_meaning.specs.BitFields.{bit_field_of};
+ghost use Rattle.def_instructions.specs.BitFields.{field_offset_of, width_bits, field_width_of, is_change, field_after};
+ghost use Rattle.def_instructions.specs.BitFields.{field_flags, field_seen, field_signed, with_result, field_done};
+ghost use Rattle.def_instructions.specs.BitFields.{field_in_register_of, field_in_memory_of, bytes_before, bytes_held};
+ghost use Rattle.def_instructions.specs.BitFields.{bit_field_of};
 ghost use Rattle.mb_operands.specs.Endings.{carried_by};
 
 use mb_alu::Conditions;

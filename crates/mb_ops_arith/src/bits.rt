@@ -3,7 +3,7 @@
 ghost use Rattle.std.specs.Prelude.{◌≡◌, ◌<◌, ◌^◌, ◌≢◌};
 ghost use Rattle.mb_port.specs.Routine.{run};
 ghost use Rattle.mb_instr.specs.Operands.{IsEa, IsDestination};
-ghost use Rattle.mb_meaning.specs.Bits.{bit_size, bit_after, change_bit_of, bit_row_of};
+ghost use Rattle.def_instructions.specs.Bits.{bit_size, bit_after, change_bit_of, bit_row_of};
 ghost use Rattle.mb_operands.specs.Endings.{carried_by};
 
 use crate::modifying::modify;
@@ -64,7 +64,7 @@ fn bit_after(kind: BitKind, place: u32, value: u32) -> u32
 /// The value after the row, and the condition codes: Z is the complement of the bit, whose number counts modulo the
 /// bits of the operand.
 #[inline(always)]
-#[tactic(auto, unfolding(mb_meaning::specs::Bits::change_bit_of))]
+#[tactic(auto, unfolding(def_instructions::specs::Bits::change_bit_of))]
 pub(crate) fn change_bit(kind: BitKind, number: u32, size: Size, value: u32, ccr: u8) -> Flagged
     ensures { result ≡ change_bit_of kind number size value ccr }
 {

@@ -4,7 +4,7 @@ ghost use Rattle.std.specs.Prelude.{◌≡◌, ◌<◌};
 ghost use Rattle.mb_port.specs.Routine.{run};
 ghost use Rattle.mb_instr.specs.Operands.{IsEa, IsDestination};
 ghost use Rattle.mb_instr.specs.Sizes.{values_of};
-ghost use Rattle.mb_meaning.specs.Decimals.{negate_decimal_of, paired, decimal_of, repack_of};
+ghost use Rattle.def_instructions.specs.Decimals.{negate_decimal_of, paired, decimal_of, repack_of};
 ghost use Rattle.mb_ops_arith.specs.Decimals.{decimal_operation, packing_operation, packed_from, packed_to};
 ghost use Rattle.mb_operands.specs.Endings.{carried_by};
 

@@ -5,7 +5,7 @@ ghost use Rattle.mb_instr.specs.Operands.{IsEa};
 ghost use Rattle.mb_instr.specs.Sizes.{low_of};
 ghost use Rattle.mb_instr.specs.Registers.{data_register};
 ghost use Rattle.mb_alu.specs.Sums.{compare_of};
-ghost use Rattle.mb_meaning.specs.Unary.{put_in_register_of};
+ghost use Rattle.def_instructions.specs.Unary.{put_in_register_of};
 ghost use Rattle.mb_ops_arith.specs.AtHand.{IsAtHand};
 ghost use Rattle.mb_ops_arith.specs.Changes.{operation_of};
 

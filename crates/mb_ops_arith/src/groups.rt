@@ -6,7 +6,7 @@ ghost use Rattle.mb_instr.specs.Codes.{IsInstr};
 ghost use Rattle.mb_instr.specs.Shapes.{operands_at};
 ghost use Rattle.mb_instr.specs.Rows.{arith_row};
 ghost use Rattle.mb_instr.specs.declared.instruction.Instr.TheVariants as instr;
-ghost use Rattle.mb_meaning.specs.Rows.{perform_arith_of};
+ghost use Rattle.def_instructions.specs.Rows.{perform_arith_of};
 ghost use Rattle.mb_operands.specs.Endings.{carried_by};
 ghost use Rattle.mb_ops_arith.specs.Groups.{is_pair, is_immediate, is_comparison, is_register_result, is_single};
 ghost use Rattle.mb_ops_arith.specs.Groups.{is_bits, is_decimal, is_locked};

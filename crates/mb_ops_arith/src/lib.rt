@@ -1,6 +1,6 @@
 //! The instructions that compute, over any bus, one small function a row.
 //!
-//! Each function does what its routine of `mb_meaning` does, whatever the bus.
+//! Each function does what its routine of `def_instructions` does, whatever the bus.
 #![tactic(auto)]
 
 mod bit_fields;

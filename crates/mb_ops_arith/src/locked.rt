@@ -4,9 +4,9 @@ ghost use Rattle.std.specs.Prelude.{◌≡◌, ◌<◌};
 ghost use Rattle.mb_port.specs.Routine.{run};
 ghost use Rattle.mb_instr.specs.Operands.{IsEa, IsInMemory, IsData};
 ghost use Rattle.mb_instr.specs.FurtherWords.{swap_word};
-ghost use Rattle.mb_meaning.specs.Locked.{test_and_set_of, tas_of};
-ghost use Rattle.mb_meaning.specs.Locked.{cas_codes, cas_loaded, cas_equal, cas_of};
-ghost use Rattle.mb_meaning.specs.Locked.{cas2_codes, cas2_of};
+ghost use Rattle.def_instructions.specs.Locked.{test_and_set_of, tas_of};
+ghost use Rattle.def_instructions.specs.Locked.{cas_codes, cas_loaded, cas_equal, cas_of};
+ghost use Rattle.def_instructions.specs.Locked.{cas2_codes, cas2_of};
 ghost use Rattle.mb_operands.specs.Endings.{carried_by};
 
 use crate::modifying::modify;

@@ -3,7 +3,7 @@
 ghost use Rattle.std.specs.Prelude.{◌≡◌};
 ghost use Rattle.mb_port.specs.Routine.{run};
 ghost use Rattle.mb_instr.specs.Operands.{IsEa, IsDestination};
-ghost use Rattle.mb_meaning.specs.Modifying.{modify_of};
+ghost use Rattle.def_instructions.specs.Modifying.{modify_of};
 ghost use Rattle.mb_ops_arith.specs.Changes.{change_of};
 ghost use Rattle.mb_operands.specs.Endings.{carried_by};
 

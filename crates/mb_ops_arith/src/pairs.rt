@@ -5,7 +5,7 @@ ghost use Rattle.mb_port.specs.Routine.{run};
 ghost use Rattle.mb_instr.specs.Operands.{IsEa, IsImmediate, IsDestination};
 ghost use Rattle.mb_instr.specs.declared.operand.Ea.TheVariants.{Dn, Imm};
 ghost use Rattle.mb_operands.specs.Fetched.{IsOperand};
-ghost use Rattle.mb_meaning.specs.Arithmetic.{fetch_pair_of, combine_of, compare_pair_of, combine_either_way_of, chain_of};
+ghost use Rattle.def_instructions.specs.Arithmetic.{fetch_pair_of, combine_of, compare_pair_of, combine_either_way_of, chain_of};
 ghost use Rattle.mb_ops_arith.specs.Changes.{operation_of};
 ghost use Rattle.mb_ops_arith.specs.Pairs.{paired};
 ghost use Rattle.mb_operands.specs.Endings.{carried_by};
@@ -174,7 +174,7 @@ pub(crate) fn compare_immediate<P: Port>(
 
 /// ADD, SUB, AND, OR and EOR of an operand that stands anywhere.
 #[inline(never)]
-#[tactic(auto, unfolding(mb_meaning::specs::Arithmetic::combine_either_way_of))]
+#[tactic(auto, unfolding(def_instructions::specs::Arithmetic::combine_either_way_of))]
 fn combine_operand<P: Port>(
     operation: Operation,
     register: u8,
@@ -207,7 +207,7 @@ fn combine_operand<P: Port>(
 #[rattlefmt::skip]
 #[inline(always)]
 #[tactic(auto, using(crate::proofs::WithoutBus::without_bus), unfolding(
-    mb_meaning::specs::Arithmetic::combine_either_way_of,
+    def_instructions::specs::Arithmetic::combine_either_way_of,
 ))]
 pub(crate) fn combine_either_way<P: Port>(
     operation: Operation,
@@ -244,7 +244,7 @@ pub(crate) fn combine_either_way<P: Port>(
 }
 
 /// ADDX and SUBX: two data registers, or memory below two address registers.
-#[tactic(auto, using(crate::proofs::WithoutBus::without_bus), unfolding(mb_meaning::specs::Arithmetic::chain_of))]
+#[tactic(auto, using(crate::proofs::WithoutBus::without_bus), unfolding(def_instructions::specs::Arithmetic::chain_of))]
 pub(crate) fn chain<P: Port>(
     operation: Operation,
     size: Size,

@@ -4,10 +4,10 @@ ghost use Rattle.std.specs.Prelude.{◌≡◌, ◌<◌};
 ghost use Rattle.mb_instr.specs.FurtherWords.{pair_word};
 ghost use Rattle.mb_alu.specs.Products.{IsBounded};
 ghost use Rattle.mb_alu.specs.declared.width.Width.TheVariants as width;
-ghost use Rattle.mb_meaning.specs.Ends.{carried};
-ghost use Rattle.mb_meaning.specs.Products.{multiply_word_of, divided_by_word, divide_word_of};
-ghost use Rattle.mb_meaning.specs.Products.{multiply_to_long_of, multiply_to_wide_of, multiply_long_of};
-ghost use Rattle.mb_meaning.specs.Products.{dividend_of, width_in, divided_by_long, divide_long_of};
+ghost use Rattle.def_instructions.specs.Ends.{carried};
+ghost use Rattle.def_instructions.specs.Products.{multiply_word_of, divided_by_word, divide_word_of};
+ghost use Rattle.def_instructions.specs.Products.{multiply_to_long_of, multiply_to_wide_of, multiply_long_of};
+ghost use Rattle.def_instructions.specs.Products.{dividend_of, width_in, divided_by_long, divide_long_of};
 ghost use Rattle.mb_operands.specs.Endings.{carried_by};
 
 use mb_alu::{Divided, Width, div, mul};

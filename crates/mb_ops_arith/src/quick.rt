@@ -3,7 +3,7 @@
 ghost use Rattle.std.specs.Prelude.{◌≡◌, ◌<◌};
 ghost use Rattle.mb_port.specs.Routine.{run};
 ghost use Rattle.mb_instr.specs.Operands.{IsEa, IsDestination};
-ghost use Rattle.mb_meaning.specs.Arithmetic.{combine_quick_of};
+ghost use Rattle.def_instructions.specs.Arithmetic.{combine_quick_of};
 ghost use Rattle.mb_ops_arith.specs.Changes.{moved_of, sum_of};
 ghost use Rattle.mb_operands.specs.Endings.{carried_by};
 
@@ -16,7 +16,7 @@ use mb_writes::Ended;
 
 /// Of an address register all of it counts, and no condition code changes.
 #[inline(always)]
-#[tactic(auto, unfolding(mb_meaning::specs::Arithmetic::combine_quick_of))]
+#[tactic(auto, unfolding(def_instructions::specs::Arithmetic::combine_quick_of))]
 pub(crate) fn combine_quick<P: Port>(
     sum: Sum,
     quick: u8,

@@ -1,7 +1,7 @@
 //! Shifts and rotates.
 
 ghost use Rattle.std.specs.Prelude.{◌≡◌, ◌<◌};
-ghost use Rattle.mb_meaning.specs.Shifts.{shift_count_of, shift_register_of};
+ghost use Rattle.def_instructions.specs.Shifts.{shift_count_of, shift_register_of};
 ghost use Rattle.mb_ops_arith.specs.Counts.{IsCount};
 
 use crate::unary::put_in_register;

@@ -3,7 +3,7 @@
 ghost use Rattle.std.specs.Prelude.{◌≡◌, ◌<◌};
 ghost use Rattle.mb_port.specs.Routine.{run};
 ghost use Rattle.mb_instr.specs.Operands.{IsEa, IsDestination};
-ghost use Rattle.mb_meaning.specs.Unary.{clr_of, put_in_register_of, ext_of, combine_with_ccr_of};
+ghost use Rattle.def_instructions.specs.Unary.{clr_of, put_in_register_of, ext_of, combine_with_ccr_of};
 ghost use Rattle.mb_operands.specs.Endings.{carried_by};
 
 use mb_alu::{Flagged, LogicKind, extend, logic};

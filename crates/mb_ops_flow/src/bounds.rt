@@ -4,7 +4,7 @@ ghost use Rattle.std.specs.Prelude.{◌≡◌, ◌<◌};
 ghost use Rattle.mb_port.specs.Routine.{run};
 ghost use Rattle.mb_instr.specs.Operands.{IsEa, IsInMemory};
 ghost use Rattle.mb_alu.specs.Signs.{signed_of};
-ghost use Rattle.mb_meaning.specs.Bounds.{check_bound_of, chk_of, check_carry_of, chk2_of};
+ghost use Rattle.def_instructions.specs.Bounds.{check_bound_of, chk_of, check_carry_of, chk2_of};
 ghost use Rattle.mb_operands.specs.Endings.{performed_by};
 
 use mb_alu::Conditions;

@@ -2,8 +2,8 @@
 
 ghost use Rattle.std.specs.Prelude.{◌≡◌, ◌<◌};
 ghost use Rattle.mb_port.specs.Routine.{run};
-ghost use Rattle.mb_meaning.specs.Ends.{went};
-ghost use Rattle.mb_meaning.specs.Flow.{branch_displacement_of, target_of, is_call, call_of, go_if_met_of, branch_of};
+ghost use Rattle.def_instructions.specs.Ends.{went};
+ghost use Rattle.def_instructions.specs.Flow.{branch_displacement_of, target_of, is_call, call_of, go_if_met_of, branch_of};
 ghost use Rattle.mb_operands.specs.Endings.{performed_by};
 
 use mb_instr::{Branch, Condition, Plain, Size};

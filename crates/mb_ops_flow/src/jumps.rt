@@ -3,7 +3,7 @@
 ghost use Rattle.std.specs.Prelude.{◌≡◌};
 ghost use Rattle.mb_port.specs.Routine.{run};
 ghost use Rattle.mb_instr.specs.Operands.{IsEa, IsInMemory};
-ghost use Rattle.mb_meaning.specs.Flow.{jmp_of, jsr_of};
+ghost use Rattle.def_instructions.specs.Flow.{jmp_of, jsr_of};
 ghost use Rattle.mb_operands.specs.Endings.{performed_by};
 
 use crate::branches::call;

@@ -1,8 +1,8 @@
 //! DBcc.
 
 ghost use Rattle.std.specs.Prelude.{◌≡◌, ◌<◌};
-ghost use Rattle.mb_meaning.specs.Ends.{went};
-ghost use Rattle.mb_meaning.specs.Flow.{count_down_of, go_if_counted_of, dbcc_of};
+ghost use Rattle.def_instructions.specs.Ends.{went};
+ghost use Rattle.def_instructions.specs.Flow.{count_down_of, go_if_counted_of, dbcc_of};
 
 use crate::branches::target;
 use mb_instr::{Branch, Condition, Plain, Size};

@@ -2,7 +2,7 @@
 
 ghost use Rattle.std.specs.Prelude.{◌≡◌};
 ghost use Rattle.mb_port.specs.Routine.{run};
-ghost use Rattle.mb_meaning.specs.Returns.{rts_of, rtd_of, rtr_of};
+ghost use Rattle.def_instructions.specs.Returns.{rts_of, rtd_of, rtr_of};
 ghost use Rattle.mb_operands.specs.Endings.{performed_by};
 
 use mb_instr::{Plain, Size};

@@ -1,7 +1,7 @@
 //! TRAP, TRAPcc and TRAPV.
 
 ghost use Rattle.std.specs.Prelude.{◌≡◌, ◌<◌};
-ghost use Rattle.mb_meaning.specs.Traps.{trap_of, trapcc_of, trapv_of};
+ghost use Rattle.def_instructions.specs.Traps.{trap_of, trapcc_of, trapv_of};
 ghost use Rattle.mb_operands.specs.Endings.{performed_by};
 
 use mb_instr::vectors::{CONDITION_MET, FIRST_TRAP};

@@ -5,8 +5,8 @@ use Rattle.mb_port.specs.declared.types.Space.{Space}
 use Rattle.mb_instr.specs.declared.registers.Plain.{Plain}
 use Rattle.mb_writes.specs.declared.transfers.Movem.{Movem}
 use Rattle.mb_writes.specs.Moving.{Halfway, transfer_of}
-use Rattle.mb_meaning.specs.Ends.{Rowed, carried}
-use Rattle.mb_meaning.specs.Moves.{transferring}
+use Rattle.def_instructions.specs.Ends.{Rowed, carried}
+use Rattle.def_instructions.specs.Moves.{transferring}
 
 -- What is left of a MOVEM: nothing, or the transfers behind so many. The registers are those now.
 abbrev pub left_of : Movem → ℕ → Space → Option ℕ → Plain → Routine (Result Plain Halfway)

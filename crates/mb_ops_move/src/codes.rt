@@ -3,7 +3,7 @@
 ghost use Rattle.std.specs.Prelude.{◌≡◌, ◌<◌};
 ghost use Rattle.mb_port.specs.Routine.{run};
 ghost use Rattle.mb_instr.specs.Operands.{IsEa, IsDestination};
-ghost use Rattle.mb_meaning.specs.Moves.{move_to_ccr_of, move_from_ccr_of, condition_byte, scc_of};
+ghost use Rattle.def_instructions.specs.Moves.{move_to_ccr_of, move_from_ccr_of, condition_byte, scc_of};
 ghost use Rattle.mb_operands.specs.Endings.{carried_by};
 
 use mb_ea::resolve;

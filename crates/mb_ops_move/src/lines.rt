@@ -3,8 +3,8 @@
 ghost use Rattle.std.specs.Prelude.{◌≡◌, ◌<◌, ◌%◌};
 ghost use Rattle.mb_port.specs.Routine.{run};
 ghost use Rattle.mb_instr.specs.FurtherWords.{line_word};
-ghost use Rattle.mb_meaning.specs.Lines.{line_address, move_line_of, past_line, past_lines};
-ghost use Rattle.mb_meaning.specs.Lines.{move16_absolute_of, move16_post_of};
+ghost use Rattle.def_instructions.specs.Lines.{line_address, move_line_of, past_line, past_lines};
+ghost use Rattle.def_instructions.specs.Lines.{move16_absolute_of, move16_post_of};
 ghost use Rattle.mb_operands.specs.Endings.{carried_by};
 
 use mb_ea::ReadFault;

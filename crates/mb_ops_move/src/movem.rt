@@ -5,7 +5,7 @@ ghost use Rattle.mb_port.specs.Routine.{run};
 ghost use Rattle.mb_instr.specs.Operands.{IsEa, IsInMemory};
 ghost use Rattle.mb_writes.specs.Transfers.{count_of, IsMode};
 ghost use Rattle.mb_writes.specs.Moving.{transfer_of};
-ghost use Rattle.mb_meaning.specs.Moves.{movem_mode, movem_of};
+ghost use Rattle.def_instructions.specs.Moves.{movem_mode, movem_of};
 ghost use Rattle.mb_operands.specs.Endings.{carried_by};
 ghost use Rattle.mb_ops_move.specs.Transfers.{ending};
 

@@ -3,7 +3,7 @@
 ghost use Rattle.std.specs.Prelude.{◌≡◌, ◌<◌};
 ghost use Rattle.mb_port.specs.Routine.{run};
 ghost use Rattle.mb_instr.specs.Operands.{IsEa, IsInMemory, IsDestination};
-ghost use Rattle.mb_meaning.specs.Moves.{moveq_of, move_operand_of, movea_of, lea_of};
+ghost use Rattle.def_instructions.specs.Moves.{moveq_of, move_operand_of, movea_of, lea_of};
 ghost use Rattle.mb_operands.specs.Endings.{carried_by};
 
 use mb_alu::{LogicKind, extend, logic};

@@ -6,8 +6,8 @@ ghost use Rattle.mb_instr.specs.Codes.{IsInstr};
 ghost use Rattle.mb_instr.specs.Shapes.{operands_at};
 ghost use Rattle.mb_instr.specs.Rows.{move_row};
 ghost use Rattle.mb_instr.specs.declared.instruction.Instr.TheVariants as instr;
-ghost use Rattle.mb_meaning.specs.Rows.{perform_move_of};
-ghost use Rattle.mb_meaning.specs.Ends.{closing, restoring};
+ghost use Rattle.def_instructions.specs.Rows.{perform_move_of};
+ghost use Rattle.def_instructions.specs.Ends.{closing, restoring};
 ghost use Rattle.mb_operands.specs.Endings.{is_unread, performed_by, carried_by};
 
 use crate::codes::{move_from_ccr, move_to_ccr, scc};

@@ -5,7 +5,7 @@ ghost use Rattle.mb_port.specs.Routine.{run};
 ghost use Rattle.mb_instr.specs.Sizes.{bytes_of};
 ghost use Rattle.mb_ea.specs.Reading.{read_pieces_of};
 ghost use Rattle.mb_writes.specs.Writing.{apart};
-ghost use Rattle.mb_meaning.specs.Peripheral.{read_apart_of, load_peripheral_of, store_peripheral_of, movep_of};
+ghost use Rattle.def_instructions.specs.Peripheral.{read_apart_of, load_peripheral_of, store_peripheral_of, movep_of};
 ghost use Rattle.mb_operands.specs.Endings.{carried_by};
 
 use mb_ea::{ReadFault, Target};

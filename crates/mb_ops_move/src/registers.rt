@@ -1,7 +1,7 @@
 //! EXG and SWAP.
 
 ghost use Rattle.std.specs.Prelude.{◌≡◌, ◌<◌};
-ghost use Rattle.mb_meaning.specs.Moves.{exchange_registers_of, exg_of, swap_of};
+ghost use Rattle.def_instructions.specs.Moves.{exchange_registers_of, exg_of, swap_of};
 
 use mb_alu::{LogicKind, logic};
 use mb_instr::{Exchange, Plain, Size};

@@ -3,7 +3,7 @@
 ghost use Rattle.std.specs.Prelude.{◌≡◌, ◌<◌};
 ghost use Rattle.mb_port.specs.Routine.{run};
 ghost use Rattle.mb_instr.specs.Operands.{IsEa, IsInMemory};
-ghost use Rattle.mb_meaning.specs.Stack.{pea_of, link_of, unlk_of};
+ghost use Rattle.def_instructions.specs.Stack.{pea_of, link_of, unlk_of};
 ghost use Rattle.mb_operands.specs.Endings.{carried_by};
 
 use mb_instr::{Ea, Plain, Size};

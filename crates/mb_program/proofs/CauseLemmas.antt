@@ -4,8 +4,8 @@ use Rattle.std.specs.Prelude.{IfSome, replicate, slice_index_or}
 use Rattle.mb_outside.specs.Prints.{Prints}
 use Rattle.mb_model.specs.Keeping.{rule_k}
 use Rattle.mb_walk.specs.Memory.{with_contents}
-use Rattle.mb_machine.specs.Machine.{opening_devices}
-use Rattle.vm_meaning.proofs.Runs.{run-from_reset}
+use Rattle.def_machine.specs.Machine.{opening_devices}
+use Rattle.def_runs.proofs.Runs.{run-from_reset}
 use Rattle.vm_guest.specs.Session.{GuestAtStart}
 use Rattle.vm_slices.specs.Fit.{Fits}
 use Rattle.mb_words.specs.Words.{Asked, Text, bare, assembly, disassembly, hosting, comparison, generation, asked_by}

@@ -7,9 +7,9 @@ use Rattle.std.proofs.lemmas.Option.{get_or_from_slice_get, slice_get_cases, sli
 use Rattle.std.specs.List.{list_all}
 use Rattle.std.specs.Prelude.{◌&&◌, IfSome, slice_get}
 use Rattle.mb_model.specs.Keeping.{rule_a, rule_k}
-use Rattle.mb_machine.specs.Machine.{Entries, Machine, run_of, start}
-use Rattle.vm_meaning.specs.Native.{NativeState}
-use Rattle.vm_machine.specs.Rounds.{Member}
+use Rattle.def_machine.specs.Machine.{Entries, Machine, run_of, start}
+use Rattle.def_runs.specs.Native.{NativeState}
+use Rattle.def_guests.specs.Rounds.{Member}
 use Rattle.vm_guest.specs.Session.{GuestAtStart}
 use Rattle.vm_slices.specs.Adopting.{scripts_of}
 use Rattle.vm_slices.specs.Members.{machines_of, numbered}

@@ -2,7 +2,7 @@
 use Rattle.std.proofs.Common.{◌≡◌, ◌∙◌, ◌⊎◌, ◌<◌, ℕ, [], inl, inr, refl, sym, ap, subst, arith, Option, Some, None, Ok, Err}
 use Rattle.std.specs.Prelude.{string_bytes, codes}
 use Rattle.mb_words.specs.Words.{Text, Asked}
-use Rattle.vm_meaning.specs.Native.{NativeState}
+use Rattle.def_runs.specs.Native.{NativeState}
 use Rattle.mb_files.specs.Reading.{Reading, ◌>>=◌, gives, end_of}
 use Rattle.mb_files.specs.Comes.{Comes}
 use Rattle.mb_files.specs.Reads.{IsRead, IsUnread}

@@ -3,7 +3,7 @@ use Rattle.std.proofs.Common.{Option, ◌≡◌, ◌∙◌, ◌<◌, ℕ, suc, �
 use Rattle.std.specs.Prelude.{string_bytes}
 use Rattle.std.proofs.lemmas.List.{append-nil, drop-map}
 use Rattle.mb_script.specs.Plan.{Disk, Guest}
-use Rattle.mb_machine.specs.Machine.{Entries, Opening}
+use Rattle.def_machine.specs.Machine.{Entries, Opening}
 use Rattle.mb_words.specs.Words.{Text}
 use Rattle.vm_guest.specs.Session.{GuestAtStart}
 use Rattle.mb_files.specs.Reading.{Told, Reading, gives, ◌>>=◌}

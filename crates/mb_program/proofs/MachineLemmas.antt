@@ -10,11 +10,11 @@ use Rattle.mb_model.specs.Keeping.{rule_a}
 use Rattle.mb_model.specs.Seen.{Seen}
 use Rattle.mb_walk.specs.Memory.{Contents}
 use Rattle.mb_devices.specs.Devices.{DeviceState}
-use Rattle.mb_machine.specs.Machine.{Entries, Machine, Opening, Outcome, diskless, outcome_of, reset_with, seen_machine, start}
+use Rattle.def_machine.specs.Machine.{Entries, Machine, Opening, Outcome, diskless, outcome_of, reset_with, seen_machine, start}
 use Rattle.vm_disk.specs.Disk.{DiskState}
 use Rattle.vm_disk.proofs.Equal.{same_decides}
 use Rattle.vm_guest.specs.Session.{GuestAtStart}
-use Rattle.vm_machine.specs.Rounds.{Member}
+use Rattle.def_guests.specs.Rounds.{Member}
 use Rattle.vm_slices.specs.Adopting.{scripts_of}
 use Rattle.vm_slices.specs.Members.{devices_of, machines_of, shown_of}
 use Rattle.mb_report.specs.Text.{outcome_text}

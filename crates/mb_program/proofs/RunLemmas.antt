@@ -5,13 +5,13 @@ use Rattle.std.proofs.lemmas.Bool.{cases_Bool}
 use Rattle.std.proofs.lemmas.List.Sums.{sum_by-cons}
 use Rattle.std.proofs.lemmas.Bool.Decides.{leb_tells}
 use Rattle.mb_model.specs.Keeping.{rule_k}
-use Rattle.mb_machine.specs.Machine.{Machine, reset_with, run_of, start}
-use Rattle.vm_meaning.specs.Marks.{trail}
-use Rattle.vm_meaning.specs.Native.{NativeState}
-use Rattle.vm_machine.specs.Rounds.{Hosted, Member, all_done, left, left_of_all, members_after, round, rounds}
-use Rattle.vm_machine.specs.Turns.{Tally, exits, prepared, steps_in, turn_of}
-use Rattle.vm_machine.proofs.Counts.{counts_are_steps}
-use Rattle.vm_machine.proofs.ByRule.{guests_run_alone}
+use Rattle.def_machine.specs.Machine.{Machine, reset_with, run_of, start}
+use Rattle.def_runs.specs.Marks.{trail}
+use Rattle.def_runs.specs.Native.{NativeState}
+use Rattle.def_guests.specs.Rounds.{Hosted, Member, all_done, left, left_of_all, members_after, round, rounds}
+use Rattle.def_guests.specs.Turns.{Tally, exits, prepared, steps_in, turn_of}
+use Rattle.def_guests.proofs.Counts.{counts_are_steps}
+use Rattle.def_guests.proofs.ByRule.{guests_run_alone}
 use Rattle.vm_guest.specs.Session.{GuestAtStart, SessionAtStart}
 use Rattle.vm_slices.specs.Adopting.{scripts_of}
 use Rattle.vm_slices.specs.Counting.{AreCounted, exits_by, retired_by, steps_by}

@@ -2,9 +2,9 @@
 use Rattle.std.proofs.Common.{◌≡◌, List, map, refl, sym, ap, subst}
 use Rattle.std.proofs.lemmas.Bool.{le-ltb, lt-ltb}
 use Rattle.mb_model.specs.Keeping.{rule_k}
-use Rattle.mb_machine.specs.Machine.{Machine}
-use Rattle.vm_meaning.specs.Native.{NativeState}
-use Rattle.vm_machine.specs.Turns.{Tally}
+use Rattle.def_machine.specs.Machine.{Machine}
+use Rattle.def_runs.specs.Native.{NativeState}
+use Rattle.def_guests.specs.Turns.{Tally}
 use Rattle.vm_guest.specs.Session.{SessionAtStart}
 use Rattle.vm_slices.specs.Fit.{Fits, need_of}
 use Rattle.vm_slices.specs.Members.{machines_of}

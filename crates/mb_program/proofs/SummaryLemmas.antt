@@ -2,10 +2,10 @@
 use Rattle.std.proofs.Common.{◌≡◌, ◌∙◌, ◌<◌, List, [], map, refl, ap, subst, arith}
 use Rattle.mb_model.specs.Keeping.{rule_k}
 use Rattle.mb_model.specs.Seen.{Seen}
-use Rattle.mb_machine.specs.Machine.{seen_machine}
+use Rattle.def_machine.specs.Machine.{seen_machine}
 use Rattle.mb_gen.specs.Sessions.{generated, IsJustFilled}
 use Rattle.mb_words.specs.Words.{Workload}
-use Rattle.vm_meaning.specs.Native.{NativeState}
+use Rattle.def_runs.specs.Native.{NativeState}
 use Rattle.vm_guest.specs.Session.{GuestAtStart, SessionAtStart}
 use Rattle.vm_slices.specs.Fit.{need_of}
 use Rattle.vm_slices.specs.declared.open_fault.OpenFault.{OpenFault}

@@ -6,7 +6,7 @@ use Rattle.std.proofs.lemmas.List.Sums.{list_all-from_AllPass}
 use Rattle.mb_outside.specs.Sink.{Grows}
 use Rattle.mb_model.specs.Keeping.{rule_a, rule_k}
 use Rattle.mb_words.specs.Words.{Text}
-use Rattle.vm_tidy.proofs.TidyRuns.{rules-show_the_same}
+use Rattle.law_tidy.proofs.TidyRuns.{rules-show_the_same}
 use Rattle.vm_guest.specs.Session.{GuestAtStart}
 use Rattle.mb_program.specs.Files.{Ordered}
 use Rattle.mb_program.specs.Headline.{alone}

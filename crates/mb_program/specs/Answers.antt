@@ -8,7 +8,7 @@ use Rattle.mb_model.specs.Seen.{Seen}
 use Rattle.mb_walk.specs.Memory.{Contents}
 use Rattle.vm_disk.specs.Disk.{DiskState}
 use Rattle.vm_disk.specs.Same.{same_disk}
-use Rattle.mb_machine.specs.Machine.{Entries, Machine, Opening, diskless, run_of, seen_machine, start}
+use Rattle.def_machine.specs.Machine.{Entries, Machine, Opening, diskless, run_of, seen_machine, start}
 use Rattle.mb_report.specs.Digits.{hex8}
 use Rattle.mb_report.specs.Text.{state_word}
 use Rattle.mb_report.specs.Same.{same_seen}

@@ -4,7 +4,7 @@ use Rattle.mb_outside.specs.declared.shelf.Shelf as shelves
 use Rattle.mb_outside.specs.declared.sink.Sink as sinks
 use Rattle.mb_outside.specs.Prints.{Printed, PrintedPart}
 use Rattle.mb_words.specs.Words.{Text}
-use Rattle.vm_meaning.specs.Native.{NativeState}
+use Rattle.def_runs.specs.Native.{NativeState}
 use Rattle.mb_files.specs.Shelves.{ShelfSeen, shelf_seen}
 
 -- A sink: what it took, where it tells that, and its count of faults.

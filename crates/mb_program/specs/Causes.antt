@@ -7,7 +7,7 @@ use Rattle.mb_walk.specs.Memory.{Contents}
 use Rattle.vm_slices.specs.Fit.{Fits}
 use Rattle.mb_words.specs.Words.{Text, Asked, Run, Excerpt, Workload}
 use Rattle.mb_words.specs.Words.{bare, assembly, disassembly, hosting, comparison, generation}
-use Rattle.mb_machine.specs.Machine.{Entries, Opening}
+use Rattle.def_machine.specs.Machine.{Entries, Opening}
 use Rattle.mb_files.specs.Reading.{Told, Reading, end_of, file, images}
 use Rattle.mb_files.specs.Comes.{Comes, Names}
 use Rattle.mb_files.specs.Sources.{sources}

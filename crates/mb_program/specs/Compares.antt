@@ -1,9 +1,9 @@
 -- Guests on boards of their own beside the same guests under the monitor.
 use Rattle.std.specs.Prelude.{ℕ, Bool, List, [], ◌∷◌}
 use Rattle.mb_model.specs.Keeping.{rule_a}
-use Rattle.mb_machine.specs.Machine.{Entries, Machine, run_of, start}
+use Rattle.def_machine.specs.Machine.{Entries, Machine, run_of, start}
 use Rattle.mb_board.specs.State.{machine_in}
-use Rattle.vm_machine.specs.Rounds.{Member}
+use Rattle.def_guests.specs.Rounds.{Member}
 use Rattle.vm_guest.specs.Session.{GuestAtStart}
 use Rattle.mb_program.specs.Answers.{shows_same}
 use Rattle.mb_program.specs.declared.bare_machine.BareMachine.{BareMachine}

@@ -1,10 +1,10 @@
 -- What is counted of the guests of a session: their steps by class, and what the board carries out of them.
 use Rattle.std.specs.Prelude.{◌≡◌, ℕ, ◌+◌, ◌*◌, ◌^◌, ◌<◌, ◌≤◌, List, ◌++◌, map, Option, Some, None, sum_by, codes, decimal}
 use Rattle.mb_words.specs.Words.{Text}
-use Rattle.vm_meaning.specs.Marks.{trail}
-use Rattle.vm_meaning.specs.Native.{NativeState}
-use Rattle.vm_machine.specs.Turns.{Tally, exits, steps_in, tally_of}
-use Rattle.vm_machine.specs.Rounds.{Hosted}
+use Rattle.def_runs.specs.Marks.{trail}
+use Rattle.def_runs.specs.Native.{NativeState}
+use Rattle.def_guests.specs.Turns.{Tally, exits, steps_in, tally_of}
+use Rattle.def_guests.specs.Rounds.{Hosted}
 use Rattle.vm_guest.specs.Session.{GuestAtStart}
 use Rattle.vm_slices.specs.Members.{member_at_start}
 use Rattle.vm_slices.specs.Orders.{after_session}

@@ -1,7 +1,7 @@
 -- A machine with a disk.
 use Rattle.std.specs.Prelude.{Option}
 use Rattle.vm_disk.specs.Disk.{DiskState}
-use Rattle.mb_machine.specs.Machine.{Machine, with_devices}
+use Rattle.def_machine.specs.Machine.{Machine, with_devices}
 
 -- a machine with this disk, or with none
 abbrev pub with_disk : Option DiskState → Machine → Machine

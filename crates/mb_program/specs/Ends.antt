@@ -1,7 +1,7 @@
 -- How a run may end, each end with its cause.
 use Rattle.std.specs.Prelude.{◌≡◌, ◌⊎◌, ℕ, [], Option, Some, None, Ok}
 use Rattle.mb_words.specs.Words.{Text, Asked}
-use Rattle.vm_meaning.specs.Native.{NativeState}
+use Rattle.def_runs.specs.Native.{NativeState}
 use Rattle.mb_files.specs.Reading.{Reading}
 use Rattle.mb_files.specs.Comes.{Comes}
 use Rattle.mb_files.specs.Reads.{IsUnread}

@@ -5,7 +5,7 @@ use Rattle.mb_script.specs.Plan.{Disk, Guest}
 use Rattle.mb_script.specs.declared.turn.Turn.{Turn}
 use Rattle.vm_disk.specs.Disk.{DiskState, opened}
 use Rattle.vm_disk.specs.declared.disk.TheConstants.{BLOCK_BYTES}
-use Rattle.mb_machine.specs.Machine.{Entries, Opening}
+use Rattle.def_machine.specs.Machine.{Entries, Opening}
 use Rattle.vm_guest.specs.Session.{GuestAtStart, SessionAtStart}
 use Rattle.mb_words.specs.Words.{Text}
 

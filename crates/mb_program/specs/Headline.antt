@@ -2,10 +2,10 @@
 use Rattle.std.specs.Prelude.{◌≡◌, ◌⊎◌, ℕ, ◌+◌, List, [], ◌∷◌, ◌++◌, All, map, Option, Some, option_map, Ok}
 use Rattle.std.specs.Option.{option_map_or}
 use Rattle.mb_model.specs.Keeping.{Rule, rule_k}
-use Rattle.mb_machine.specs.Machine.{Machine, run_of, seen_machine, start}
+use Rattle.def_machine.specs.Machine.{Machine, run_of, seen_machine, start}
 use Rattle.mb_report.specs.Text.{outcome_text}
 use Rattle.vm_disk.specs.Text.{disk_text}
-use Rattle.vm_meaning.specs.Free.{FreeRun, Within, rule_free}
+use Rattle.def_runs.specs.Free.{FreeRun, Within, rule_free}
 use Rattle.vm_guest.specs.Session.{GuestAtStart}
 use Rattle.vm_slices.specs.Fit.{Fits}
 use Rattle.mb_words.specs.Words.{Text, asked_by, hosting}

@@ -1,7 +1,7 @@
 -- What running all guests of a session gave.
 use Rattle.std.specs.Prelude.{◌≡◌, ⊤, ◌<◌, map, Result, Ok, Err}
 use Rattle.mb_model.specs.Keeping.{rule_k}
-use Rattle.vm_meaning.specs.Native.{NativeState}
+use Rattle.def_runs.specs.Native.{NativeState}
 use Rattle.vm_guest.specs.Session.{GuestAtStart, SessionAtStart}
 use Rattle.vm_slices.specs.Adopting.{scripts_of}
 use Rattle.vm_slices.specs.Fit.{Fits, need_of}

@@ -2,7 +2,7 @@
 use Rattle.mb_srec.specs.Image.{contents_of}
 use Rattle.mb_script.specs.Plan.{Disk}
 use Rattle.mb_words.specs.Values.{file_said}
-use Rattle.mb_machine.specs.Machine.{Entries, Opening}
+use Rattle.def_machine.specs.Machine.{Entries, Opening}
 use Rattle.mb_program.specs.Files.{Ordered}
 use Rattle.mb_program.specs.declared.named.NamedDisk.{NamedDisk}
 use Rattle.mb_program.specs.declared.named.Parts.{Parts}

@@ -2,7 +2,7 @@
 use Rattle.std.specs.Prelude.{◌≡◌, ◌⊎◌, ℕ, ◌+◌, true, List, ◌∷◌, ◌++◌, All, length, map}
 use Rattle.mb_outside.specs.Sink.{Grows}
 use Rattle.mb_words.specs.Words.{Text}
-use Rattle.vm_meaning.specs.Tidy.{Tidy}
+use Rattle.def_runs.specs.Tidy.{Tidy}
 use Rattle.vm_guest.specs.Session.{GuestAtStart}
 use Rattle.mb_program.specs.Headline.{texts_from}
 use Rattle.mb_program.specs.Answers.{compared_text, is_same}

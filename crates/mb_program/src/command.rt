@@ -1,7 +1,7 @@
 //! The commands.
 
 ghost use Rattle.std.specs.Prelude.{◌≡◌, map, option_map, string_bytes};
-ghost use Rattle.vm_meaning.specs.Native.{NativeState};
+ghost use Rattle.def_runs.specs.Native.{NativeState};
 ghost use Rattle.mb_words.specs.Values.{file_said};
 ghost use Rattle.mb_words.specs.Words.{asked_by, assembly, bare, comparison, disassembly, hosting};
 ghost use Rattle.mb_words.specs.Words.{disk_said, excerpt_said, run_said, session_said, source_said};

@@ -7,7 +7,7 @@ ghost use Rattle.mb_walk.specs.Memory.{overwritten, with_contents};
 ghost use Rattle.mb_model.specs.Keeping.{rule_a};
 ghost use Rattle.mb_board.specs.declared.bus.TheConstants.{MOST_BOARD_BYTES};
 ghost use Rattle.mb_board.specs.State.{machine_in, with_machine};
-ghost use Rattle.mb_machine.specs.Machine.{diskless, start, with_ram};
+ghost use Rattle.def_machine.specs.Machine.{diskless, start, with_ram};
 ghost use Rattle.mb_model.specs.Seen.{seen_of};
 ghost use Rattle.mb_outside.specs.Prints.{Prints};
 ghost use Rattle.mb_report.specs.Text.{outcome_text};
@@ -57,7 +57,7 @@ fn write_chunks(board: &mut Board, chunks: &[Chunk])
 }
 
 /// A board with an image in its RAM, after reset.
-#[tactic(auto, unfolding(mb_machine::specs::Machine::reset_with))]
+#[tactic(auto, unfolding(def_machine::specs::Machine::reset_with))]
 pub(crate) fn start_board(alloc: Global, image: &Image, size: u32) -> Result<Board, Memory>
     requires size { (8 ≤ size) × (size ≤ MOST_BOARD_BYTES) }
     requires in_ram { All (LiesBelow size) (contents_of image.now) }

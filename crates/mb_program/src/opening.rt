@@ -33,7 +33,7 @@ fn put_chunks(ram: &mut [u8], chunks: &[Chunk])
 }
 
 /// So many bytes of memory as an image leaves them: 0 where it gives nothing.
-#[tactic(auto, unfolding(mb_machine::specs::Machine::reset_with))]
+#[tactic(auto, unfolding(def_machine::specs::Machine::reset_with))]
 pub(crate) fn opening_ram(alloc: Global, image: &Image, size: u32) -> Result<Vec<u8>, Memory>
     requires in_ram { All (LiesBelow size) (contents_of image.now) }
     ensures ram { IfOk result (λ ram. ram.items ≡ opening_ram (contents_of image.now) size) }

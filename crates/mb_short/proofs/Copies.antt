@@ -15,10 +15,10 @@ use Rattle.mb_ea.specs.Addresses.{sum}
 use Rattle.mb_ea.specs.Reading.{read_operand_of}
 use Rattle.mb_ea.specs.Resolve.{step_over_of}
 use Rattle.mb_writes.specs.Writing.{write_operand_of}
-use Rattle.mb_meaning.specs.Attempt.{past}
-use Rattle.mb_meaning.specs.Ends.{carried}
-use Rattle.mb_meaning.specs.Moves.{move_flags}
-use Rattle.mb_meaning.specs.Rows.{row_of}
+use Rattle.def_instructions.specs.Attempt.{past}
+use Rattle.def_instructions.specs.Ends.{carried}
+use Rattle.def_instructions.specs.Moves.{move_flags}
+use Rattle.def_instructions.specs.Rows.{row_of}
 use Rattle.mb_table.specs.declared.forms.Place.{Place}
 use Rattle.mb_table.specs.Forms.{place_ea, copy_of}
 use Rattle.mb_short.specs.Operands.{place_at}

@@ -16,11 +16,11 @@ use Rattle.mb_ea.specs.Resolve.{resolve_of}
 use Rattle.mb_instr.specs.declared.instruction.Instr.TheVariants as instr
 use Rattle.mb_instr.specs.declared.instruction.Flow.TheVariants as flow
 use Rattle.mb_instr.specs.declared.registers.Plain.{Plain}
-use Rattle.mb_meaning.specs.Attempt.{past}
-use Rattle.mb_meaning.specs.Ends.{Rowed, went}
-use Rattle.mb_meaning.specs.Flow.{go_if_met_of, call_of, dbcc_of, target_of, is_call}
-use Rattle.mb_meaning.specs.Operands.{stack_raised}
-use Rattle.mb_meaning.specs.Stack.{link_of}
+use Rattle.def_instructions.specs.Attempt.{past}
+use Rattle.def_instructions.specs.Ends.{Rowed, went}
+use Rattle.def_instructions.specs.Flow.{go_if_met_of, call_of, dbcc_of, target_of, is_call}
+use Rattle.def_instructions.specs.Operands.{stack_raised}
+use Rattle.def_instructions.specs.Stack.{link_of}
 use Rattle.mb_short.specs.Taken.{Goes}
 use Rattle.mb_short.proofs.Moves.{goes}
 

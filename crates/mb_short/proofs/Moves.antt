@@ -11,12 +11,12 @@ use Rattle.mb_instr.specs.declared.registers.Plain.{Plain}
 use Rattle.mb_instr.specs.Sizes.{low_of}
 use Rattle.mb_instr.specs.Registers.{data_register}
 use Rattle.mb_ea.specs.Resolve.{resolve_of}
-use Rattle.mb_meaning.specs.Ends.{Rowed, carried, went, restored}
-use Rattle.mb_meaning.specs.Moves.{move_operand_of}
-use Rattle.mb_meaning.specs.Arithmetic.{take_of}
-use Rattle.mb_meaning.specs.Unary.{clr_of}
+use Rattle.def_instructions.specs.Ends.{Rowed, carried, went, restored}
+use Rattle.def_instructions.specs.Moves.{move_operand_of}
+use Rattle.def_instructions.specs.Arithmetic.{take_of}
+use Rattle.def_instructions.specs.Unary.{clr_of}
 use Rattle.mb_ops_arith.proofs.WithoutBus.{taken, without_bus}
-use Rattle.mb_meaning.specs.Rows.{row_of, perform_of}
+use Rattle.def_instructions.specs.Rows.{row_of, perform_of}
 use Rattle.mb_short.specs.Moved.{moved_to}
 use Rattle.mb_short.specs.Taken.{gone}
 

@@ -21,13 +21,13 @@ use Rattle.mb_ea.specs.Addresses.{sum}
 use Rattle.mb_ea.specs.Reading.{read_operand_of}
 use Rattle.mb_ea.specs.Resolve.{resolve_of, step_over_of}
 use Rattle.mb_writes.specs.Writing.{write_operand_of}
-use Rattle.mb_meaning.specs.Attempt.{past}
-use Rattle.mb_meaning.specs.Ends.{Rowed, carried}
-use Rattle.mb_meaning.specs.Operands.{behind_of, fetch_operand_of}
-use Rattle.mb_meaning.specs.Moves.{move_operand_of, movea_of, move_flags}
-use Rattle.mb_meaning.specs.Arithmetic.{combine_of, compare_pair_of, combine_either_way_of, take_of}
-use Rattle.mb_meaning.specs.Unary.{put_in_register_of}
-use Rattle.mb_meaning.specs.Rows.{row_of}
+use Rattle.def_instructions.specs.Attempt.{past}
+use Rattle.def_instructions.specs.Ends.{Rowed, carried}
+use Rattle.def_instructions.specs.Operands.{behind_of, fetch_operand_of}
+use Rattle.def_instructions.specs.Moves.{move_operand_of, movea_of, move_flags}
+use Rattle.def_instructions.specs.Arithmetic.{combine_of, compare_pair_of, combine_either_way_of, take_of}
+use Rattle.def_instructions.specs.Unary.{put_in_register_of}
+use Rattle.def_instructions.specs.Rows.{row_of}
 use Rattle.mb_table.specs.declared.forms.Place.{Place}
 use Rattle.mb_table.specs.declared.forms.Place.TheVariants as place
 use Rattle.mb_table.specs.declared.forms.Register.{Register}

@@ -17,12 +17,12 @@ use Rattle.mb_ea.specs.Addresses.{sum}
 use Rattle.mb_ea.specs.Reading.{read_operand_of}
 use Rattle.mb_ea.specs.Resolve.{step_over_of}
 use Rattle.mb_writes.specs.Writing.{write_operand_of}
-use Rattle.mb_meaning.specs.Attempt.{past}
-use Rattle.mb_meaning.specs.Ends.{carried}
-use Rattle.mb_meaning.specs.Operands.{behind_of, fetch_operand_of}
-use Rattle.mb_meaning.specs.Arithmetic.{combine_of, combine_either_way_of, combine_quick_of}
-use Rattle.mb_meaning.specs.Modifying.{modify_of}
-use Rattle.mb_meaning.specs.Rows.{row_of}
+use Rattle.def_instructions.specs.Attempt.{past}
+use Rattle.def_instructions.specs.Ends.{carried}
+use Rattle.def_instructions.specs.Operands.{behind_of, fetch_operand_of}
+use Rattle.def_instructions.specs.Arithmetic.{combine_of, combine_either_way_of, combine_quick_of}
+use Rattle.def_instructions.specs.Modifying.{modify_of}
+use Rattle.def_instructions.specs.Rows.{row_of}
 use Rattle.mb_table.specs.declared.forms.Place.{Place}
 use Rattle.mb_table.specs.declared.forms.Place.TheVariants as place
 use Rattle.mb_table.specs.declared.forms.Update.{Update}

@@ -1,6 +1,6 @@
 -- Which short forms are carried out whatever the bus knows at once.
 use Rattle.std.specs.Prelude.{Bool, false, true, not, ◌||◌}
-use Rattle.mb_meaning.specs.Flow.{is_call}
+use Rattle.def_instructions.specs.Flow.{is_call}
 use Rattle.mb_table.specs.declared.short.Short.{Short}
 use Rattle.mb_table.specs.declared.short.Short.TheVariants as short
 

@@ -3,8 +3,8 @@ use Rattle.std.specs.Prelude.{ℕ}
 use Rattle.mb_instr.specs.declared.size.Size.{Size}
 use Rattle.mb_instr.specs.declared.registers.Plain.{Plain}
 use Rattle.mb_instr.specs.Registers.{data_register, with_data_register}
-use Rattle.mb_meaning.specs.Moves.{move_flags}
-use Rattle.mb_meaning.specs.Operands.{with_low}
+use Rattle.def_instructions.specs.Moves.{move_flags}
+use Rattle.def_instructions.specs.Operands.{with_low}
 
 -- a value of a size moved to a data register
 abbrev pub moved_to : ℕ → Size → ℕ → Plain → Plain

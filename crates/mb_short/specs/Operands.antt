@@ -9,9 +9,9 @@ use Rattle.mb_alu.specs.declared.bitwise.LogicKind.TheVariants.{And, Or}
 use Rattle.mb_alu.specs.Logic.{logic_of}
 use Rattle.mb_alu.specs.Sums.{compare_of}
 use Rattle.mb_ea.specs.Addresses.{sum, difference, increment_of}
-use Rattle.mb_meaning.specs.Arithmetic.{added, subtracted}
-use Rattle.mb_meaning.specs.Moves.{move_flags}
-use Rattle.mb_meaning.specs.Unary.{put_in_register_of}
+use Rattle.def_instructions.specs.Arithmetic.{added, subtracted}
+use Rattle.def_instructions.specs.Moves.{move_flags}
+use Rattle.def_instructions.specs.Unary.{put_in_register_of}
 use Rattle.mb_table.specs.declared.forms.Place.{Place}
 use Rattle.mb_table.specs.declared.forms.Place.TheVariants as place
 use Rattle.mb_table.specs.declared.forms.Register.{Register}

@@ -4,9 +4,9 @@ use Rattle.mb_port.specs.Routine.{Bus, Call, run}
 use Rattle.mb_port.specs.declared.types.Space.{Space}
 use Rattle.mb_instr.specs.declared.instruction.Instr.{Instr}
 use Rattle.mb_instr.specs.declared.registers.Plain.{Plain}
-use Rattle.mb_meaning.specs.Attempt.{past}
-use Rattle.mb_meaning.specs.Ends.{Performed, carried}
-use Rattle.mb_meaning.specs.Rows.{row_of, perform_of}
+use Rattle.def_instructions.specs.Attempt.{past}
+use Rattle.def_instructions.specs.Ends.{Performed, carried}
+use Rattle.def_instructions.specs.Rows.{row_of, perform_of}
 use Rattle.mb_table.specs.declared.short.Short.{Short}
 use Rattle.mb_table.specs.Short.{meaning, meaning_with}
 

@@ -7,8 +7,8 @@ use Rattle.mb_instr.specs.Registers.{data_register}
 use Rattle.mb_alu.specs.declared.conditions.Flagged.{Flagged}
 use Rattle.mb_alu.specs.declared.bitwise.LogicKind.TheVariants as logic
 use Rattle.mb_alu.specs.Logic.{logic_of}
-use Rattle.mb_meaning.specs.Arithmetic.{added, subtracted}
-use Rattle.mb_meaning.specs.Unary.{negated, complemented}
+use Rattle.def_instructions.specs.Arithmetic.{added, subtracted}
+use Rattle.def_instructions.specs.Unary.{negated, complemented}
 use Rattle.mb_table.specs.declared.forms.Update.{Update}
 use Rattle.mb_table.specs.declared.forms.Update.TheVariants as update
 

@@ -4,7 +4,7 @@ ghost use Rattle.std.specs.Prelude.{◌≡◌, ◌<◌, not, is_some, IfSome, If
 ghost use Rattle.mb_instr.specs.declared.kinds.Branch.TheVariants as displacement_in;
 ghost use Rattle.mb_instr.specs.declared.instruction.Instr.TheVariants as instr;
 ghost use Rattle.mb_instr.specs.declared.instruction.Flow.TheVariants as flow_row;
-ghost use Rattle.mb_meaning.specs.Flow.{is_call};
+ghost use Rattle.def_instructions.specs.Flow.{is_call};
 ghost use Rattle.mb_short.specs.Taken.{Goes};
 
 use mb_instr::{Branch, Condition, Plain};

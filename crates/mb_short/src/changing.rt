@@ -6,9 +6,9 @@ ghost use Rattle.mb_instr.specs.Codes.{IsInstr};
 ghost use Rattle.mb_instr.specs.Registers.{data_register};
 ghost use Rattle.mb_instr.specs.Sizes.{low_of};
 ghost use Rattle.mb_alu.specs.Shifts.{shift_of};
-ghost use Rattle.mb_meaning.specs.Ends.{carried};
-ghost use Rattle.mb_meaning.specs.Rows.{row_of};
-ghost use Rattle.mb_meaning.specs.Unary.{put_in_register_of, negated, complemented};
+ghost use Rattle.def_instructions.specs.Ends.{carried};
+ghost use Rattle.def_instructions.specs.Rows.{row_of};
+ghost use Rattle.def_instructions.specs.Unary.{put_in_register_of, negated, complemented};
 ghost use Rattle.mb_table.specs.Forms.{change_of};
 ghost use Rattle.mb_short.specs.Taken.{Goes};
 
@@ -75,9 +75,9 @@ fn complement(size: Size, register: u8, plain: &mut Plain)
 #[rattlefmt::skip]
 #[inline(always)]
 #[tactic(auto, using(crate::proofs::Moves::rows), unfolding(
-    mb_meaning::specs::Arithmetic::combine_quick_of,
-    mb_meaning::specs::Arithmetic::combine_either_way_of,
-    mb_meaning::specs::Arithmetic::chain_of,
+    def_instructions::specs::Arithmetic::combine_quick_of,
+    def_instructions::specs::Arithmetic::combine_either_way_of,
+    def_instructions::specs::Arithmetic::chain_of,
 ))]
 fn carry_out<P: Port>(change: Change, size: Size, n: u8, at: u32, space: Space, plain: &mut Plain, port: &P)
     requires { IsInstr (change_of change size n) }

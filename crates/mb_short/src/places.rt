@@ -7,7 +7,7 @@ ghost use Rattle.mb_instr.specs.Registers.{address_register};
 ghost use Rattle.mb_instr.specs.Sizes.{sign_extended};
 ghost use Rattle.mb_ea.specs.Addresses.{sum, increment_of};
 ghost use Rattle.mb_ea.specs.Resolve.{step_over_of};
-ghost use Rattle.mb_meaning.specs.Attempt.{past};
+ghost use Rattle.def_instructions.specs.Attempt.{past};
 ghost use Rattle.mb_table.specs.Forms.{place_ea};
 ghost use Rattle.mb_short.specs.Operands.{place_at};
 

@@ -2,7 +2,7 @@
 
 ghost use Rattle.std.specs.Prelude.{◌≡◌, ◌<◌, true, false, is_some, IfSome, IfNone};
 ghost use Rattle.mb_instr.specs.Codes.{IsInstr};
-ghost use Rattle.mb_meaning.specs.Moves.{move_flags, swap_of};
+ghost use Rattle.def_instructions.specs.Moves.{move_flags, swap_of};
 ghost use Rattle.mb_table.specs.Short.{meaning};
 ghost use Rattle.mb_short.specs.Always.{is_of_registers};
 ghost use Rattle.mb_short.specs.Moved.{moved_to};
@@ -65,8 +65,8 @@ fn swap(register: u8, plain: &mut Plain)
 #[rattlefmt::skip]
 #[inline(always)]
 #[tactic(auto, using(crate::proofs::Moves::rows), unfolding(
-    mb_meaning::specs::Arithmetic::combine_quick_of,
-    mb_meaning::specs::Arithmetic::combine_either_way_of,
+    def_instructions::specs::Arithmetic::combine_quick_of,
+    def_instructions::specs::Arithmetic::combine_either_way_of,
 ))]
 fn carry_out<P: Port, const COPY: usize>(short: &Short, at: u32, space: Space, plain: &mut Plain, port: &P) -> bool
     requires valid { IfSome (meaning short.now) IsInstr }

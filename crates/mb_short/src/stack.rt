@@ -7,9 +7,9 @@ ghost use Rattle.mb_instr.specs.declared.kinds.Condition.TheVariants as conditio
 ghost use Rattle.mb_instr.specs.declared.instruction.Instr.TheVariants as instr;
 ghost use Rattle.mb_instr.specs.declared.instruction.Flow.TheVariants as flow_row;
 ghost use Rattle.mb_instr.specs.declared.instruction.Move.TheVariants as move_row;
-ghost use Rattle.mb_meaning.specs.Ends.{went};
-ghost use Rattle.mb_meaning.specs.Flow.{call_of};
-ghost use Rattle.mb_meaning.specs.Stack.{link_of};
+ghost use Rattle.def_instructions.specs.Ends.{went};
+ghost use Rattle.def_instructions.specs.Flow.{call_of};
+ghost use Rattle.def_instructions.specs.Stack.{link_of};
 ghost use Rattle.mb_short.specs.Taken.{Goes};
 
 use crate::places::{pass_one, pass_two};

@@ -6,12 +6,12 @@ use Rattle.mb_instr.specs.declared.registers.Plain.{Plain}
 use Rattle.mb_instr.specs.declared.registers.Regs.{Regs}
 use Rattle.mb_instr.specs.Registers.{with_plain}
 use Rattle.mb_model.specs.declared.processor.Cpu.{Cpu}
-use Rattle.mb_processor.specs.declared.Finish.TheVariants as finish
-use Rattle.mb_processor.specs.declared.entering.Cause.{Cause}
-use Rattle.mb_processor.specs.declared.entering.Entered.TheVariants as entered
-use Rattle.mb_processor.specs.Entry.{Entrance, awake, enter_of}
-use Rattle.mb_processor.specs.SystemEnds.{with_registers}
-use Rattle.mb_processor.specs.Raise.{Stepped, traces_all, cause_at, unchecked_of, raised, trace_if_of, raise_trap_of}
+use Rattle.def_processor.specs.declared.Finish.TheVariants as finish
+use Rattle.def_processor.specs.declared.entering.Cause.{Cause}
+use Rattle.def_processor.specs.declared.entering.Entered.TheVariants as entered
+use Rattle.def_processor.specs.Entry.{Entrance, awake, enter_of}
+use Rattle.def_processor.specs.SystemEnds.{with_registers}
+use Rattle.def_processor.specs.Raise.{Stepped, traces_all, cause_at, unchecked_of, raised, trace_if_of, raise_trap_of}
 
 -- an access error ends the stopped state itself
 pub unchecked_awake : {S : Type 0} (bus : Bus S) (is_trace : Bool) (fault : Fault) (cpu : Cpu) (s : S)

@@ -12,11 +12,11 @@ use Rattle.mb_decode.specs.declared.front.Decoded.{Decoded}
 use Rattle.mb_decode.specs.declared.front.Decoded.TheVariants.{Whole}
 use Rattle.mb_decode.specs.Decodes.{decode_of}
 use Rattle.mb_ea.specs.Reading.{refused_in}
-use Rattle.mb_meaning.specs.Attempt.{NoInstruction, Unfetched, FoundInstr, illegal, found_of, by_decoded}
+use Rattle.def_instructions.specs.Attempt.{NoInstruction, Unfetched, FoundInstr, illegal, found_of, by_decoded}
 use Rattle.mb_instr.specs.declared.counts.TheConstants.{MOST_WORDS}
-use Rattle.mb_processor.specs.Raise.{Stepped, refuse_of}
-use Rattle.mb_processor.specs.Step.{finish_unread_of, execute_of, execute_next_of}
-use Rattle.mb_processor.specs.declared.Finish.{Finish}
+use Rattle.def_processor.specs.Raise.{Stepped, refuse_of}
+use Rattle.def_processor.specs.Step.{finish_unread_of, execute_of, execute_next_of}
+use Rattle.def_processor.specs.declared.Finish.{Finish}
 use Rattle.mb_step.specs.Fetching.{Sought, Word, sought_of, word_of, found_executed, behind}
 
 abbrev Answered : {S : Type 0} → Bus S → Space → ℕ → S → Result ℕ Fault → S → Type 0

@@ -9,14 +9,14 @@ use Rattle.mb_model.specs.declared.processor.Cpu.{Cpu}
 use Rattle.mb_model.specs.Status.{space_of}
 use Rattle.mb_writes.specs.declared.ends.Ended.{Ended}
 use Rattle.mb_writes.specs.declared.ends.Ended.TheVariants as ends
-use Rattle.mb_meaning.specs.Ends.{Performed, closed}
-use Rattle.mb_meaning.specs.Rows.{perform_of}
-use Rattle.mb_meaning.specs.Attempt.{past}
-use Rattle.mb_processor.specs.SystemEnds.{with_registers}
-use Rattle.mb_processor.specs.Raise.{Stepped, trace_of, trace_if_of, is_due}
-use Rattle.mb_processor.specs.declared.Finish.{Finish}
-use Rattle.mb_processor.specs.declared.Finish.TheVariants as finish
-use Rattle.mb_processor.specs.Step.{finish_instruction_of, execute_unprivileged_of}
+use Rattle.def_instructions.specs.Ends.{Performed, closed}
+use Rattle.def_instructions.specs.Rows.{perform_of}
+use Rattle.def_instructions.specs.Attempt.{past}
+use Rattle.def_processor.specs.SystemEnds.{with_registers}
+use Rattle.def_processor.specs.Raise.{Stepped, trace_of, trace_if_of, is_due}
+use Rattle.def_processor.specs.declared.Finish.{Finish}
+use Rattle.def_processor.specs.declared.Finish.TheVariants as finish
+use Rattle.def_processor.specs.Step.{finish_instruction_of, execute_unprivileged_of}
 use Rattle.mb_operands.specs.declared.endings.Undone.{Undone}
 use Rattle.mb_operands.specs.Endings.{with_end, end_of, performed_in_place}
 use Rattle.mb_step.proofs.Registers.{same_space, same_due, registers_low, registers_over, registers_same, plain_again}

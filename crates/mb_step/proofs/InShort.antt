@@ -10,12 +10,12 @@ use Rattle.mb_instr.specs.Registers.{plain_of}
 use Rattle.mb_model.specs.declared.processor.Cpu.{Cpu}
 use Rattle.mb_model.specs.Status.{space_of}
 use Rattle.mb_decode.specs.declared.front.Decoded.{Decoded}
-use Rattle.mb_meaning.specs.Attempt.{by_decoded}
-use Rattle.mb_meaning.specs.Ends.{Performed, closed}
-use Rattle.mb_processor.specs.SystemEnds.{with_registers}
-use Rattle.mb_processor.specs.Raise.{Stepped, is_due, trace_if_of}
-use Rattle.mb_processor.specs.declared.Finish.TheVariants as finish
-use Rattle.mb_processor.specs.Step.{execute_of, finish_instruction_of}
+use Rattle.def_instructions.specs.Attempt.{by_decoded}
+use Rattle.def_instructions.specs.Ends.{Performed, closed}
+use Rattle.def_processor.specs.SystemEnds.{with_registers}
+use Rattle.def_processor.specs.Raise.{Stepped, is_due, trace_if_of}
+use Rattle.def_processor.specs.declared.Finish.TheVariants as finish
+use Rattle.def_processor.specs.Step.{execute_of, finish_instruction_of}
 use Rattle.mb_table.specs.declared.short.Short.{Short}
 use Rattle.mb_table.specs.FirstWords.{alone}
 use Rattle.mb_table.specs.Short.{meaning, meaning_with, IsAlone, IsWith, IsShort}

@@ -9,9 +9,9 @@ use Rattle.mb_instr.specs.declared.registers.Regs.{Regs}
 use Rattle.mb_instr.specs.Registers.{is_supervisor, is_master, active_stack, plain_of, with_plain, with_stack, with_ccr}
 use Rattle.mb_model.specs.declared.processor.Cpu.{Cpu}
 use Rattle.mb_model.specs.Status.{space_of}
-use Rattle.mb_processor.specs.Raise.{is_due}
-use Rattle.mb_processor.specs.SystemEnds.{with_registers}
-use Rattle.mb_processor.specs.Step.{interrupt_mask}
+use Rattle.def_processor.specs.Raise.{is_due}
+use Rattle.def_processor.specs.SystemEnds.{with_registers}
+use Rattle.def_processor.specs.Step.{interrupt_mask}
 
 -- ---- the rest of the status register stays
 

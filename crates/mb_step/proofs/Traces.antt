@@ -6,7 +6,7 @@ use Rattle.std.proofs.lemmas.Bool.Decides.{nat_tests}
 use Rattle.std.proofs.lemmas.Nat.Bits.{bit_at_or, bit_at-lt}
 use Rattle.mb_frames.specs.declared.frame.Access.{Access}
 use Rattle.mb_frames.specs.declared.status_bits.TheConstants.{CT}
-use Rattle.mb_processor.specs.Raise.{has_ct, with_ct}
+use Rattle.def_processor.specs.Raise.{has_ct, with_ct}
 
 is_one : (n : ℕ) → n ≡ 1 → (n == 1) ≡ true
 is_one n h = grind (arith, nat_tests)

@@ -5,12 +5,12 @@ use Rattle.mb_port.specs.declared.types.Space.{Space}
 use Rattle.mb_instr.specs.declared.instruction.Instr.{Instr}
 use Rattle.mb_model.specs.declared.processor.Cpu.{Cpu}
 use Rattle.mb_model.specs.Status.{space_of}
-use Rattle.mb_processor.specs.declared.Finish.{Finish}
+use Rattle.def_processor.specs.declared.Finish.{Finish}
 use Rattle.mb_ea.specs.Reading.{refused_in}
-use Rattle.mb_meaning.specs.Attempt.{FoundInstr, found_of}
+use Rattle.def_instructions.specs.Attempt.{FoundInstr, found_of}
 use Rattle.mb_instr.specs.declared.counts.TheConstants.{MOST_WORDS}
-use Rattle.mb_processor.specs.Raise.{Stepped}
-use Rattle.mb_processor.specs.Step.{execute_of, unfound_of, finish_unread_of}
+use Rattle.def_processor.specs.Raise.{Stepped}
+use Rattle.def_processor.specs.Step.{execute_of, unfound_of, finish_unread_of}
 
 -- a word, or how the step ended without one; and the processor then
 abbrev pub Word : Type 0

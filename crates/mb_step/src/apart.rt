@@ -5,20 +5,20 @@ ghost use Rattle.mb_port.specs.Routine.{run};
 ghost use Rattle.mb_instr.specs.Codes.{IsInstr};
 ghost use Rattle.mb_instr.specs.declared.instruction.Instr.TheVariants as instr;
 ghost use Rattle.mb_ea.specs.Reading.{refused_in};
-ghost use Rattle.mb_processor.specs.Raise.{interrupt_of, refuse_of, trace_of};
-ghost use Rattle.mb_processor.specs.SystemEnds.{with_registers};
-ghost use Rattle.mb_processor.specs.Step.{execute_of, finish_instruction_of, finish_unread_of};
+ghost use Rattle.def_processor.specs.Raise.{interrupt_of, refuse_of, trace_of};
+ghost use Rattle.def_processor.specs.SystemEnds.{with_registers};
+ghost use Rattle.def_processor.specs.Step.{execute_of, finish_instruction_of, finish_unread_of};
 
 use crate::executing::execute_supervised;
 use crate::finishing::{finish_instruction, finish_unread};
 use crate::processor::Processor;
 use crate::raising::{interrupt, refuse, trace};
+use def_processor::Finish;
 use mb_ea::ReadFault;
 use mb_instr::vectors::PRIVILEGED;
 use mb_instr::{Instr, Plain, System};
 use mb_model::Cpu;
 use mb_port::{Fault, Port};
-use mb_processor::Finish;
 use mb_writes::Ended;
 
 impl Processor {

@@ -4,10 +4,10 @@ ghost use Rattle.std.specs.Prelude.{◌≡◌, ◌≢◌, ◌<◌};
 ghost use Rattle.mb_port.specs.Routine.{run};
 ghost use Rattle.mb_instr.specs.Codes.{IsInstr};
 ghost use Rattle.mb_instr.specs.declared.instruction.Instr.TheVariants as instr;
-ghost use Rattle.mb_processor.specs.Raise.{is_due, trace_if_of};
-ghost use Rattle.mb_processor.specs.SystemEnds.{with_registers};
+ghost use Rattle.def_processor.specs.Raise.{is_due, trace_if_of};
+ghost use Rattle.def_processor.specs.SystemEnds.{with_registers};
 ghost use Rattle.mb_operands.specs.Endings.{end_of, with_end};
-ghost use Rattle.mb_processor.specs.Step.{finish_instruction_of, execute_supervised_of, execute_unprivileged_of, execute_of};
+ghost use Rattle.def_processor.specs.Step.{finish_instruction_of, execute_supervised_of, execute_unprivileged_of, execute_of};
 
 use crate::apart::{finish_undone, trace_left};
 use crate::finishing::{finish_unfinished, finish_unread};
@@ -15,11 +15,11 @@ use crate::performing::perform_in_place;
 use crate::processor::Processor;
 use crate::raising::{is_due, refuse, trace_if};
 use crate::returning::rte;
+use def_processor::Finish;
 use mb_instr::{Instr, Plain, System};
 use mb_model::Cpu;
 use mb_operands::{Stream, Undone};
 use mb_port::Port;
-use mb_processor::Finish;
 use mb_system::perform_system;
 use mb_writes::Ended;
 

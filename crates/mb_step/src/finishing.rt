@@ -3,23 +3,23 @@
 ghost use Rattle.std.specs.Prelude.{◌≡◌, ◌≢◌};
 ghost use Rattle.mb_port.specs.Routine.{run};
 ghost use Rattle.mb_instr.specs.Codes.{IsInstr};
-ghost use Rattle.mb_processor.specs.SystemEnds.{with_registers};
-ghost use Rattle.mb_processor.specs.Step.{finish_unread_of, finish_unfinished_of, finish_unwritten_of, finish_unwritten_line_of, movem_words};
-ghost use Rattle.mb_processor.specs.Step.{finish_untransferred_of, is_flow, finish_instruction_of};
+ghost use Rattle.def_processor.specs.SystemEnds.{with_registers};
+ghost use Rattle.def_processor.specs.Step.{finish_unread_of, finish_unfinished_of, finish_unwritten_of, finish_unwritten_line_of, movem_words};
+ghost use Rattle.def_processor.specs.Step.{finish_untransferred_of, is_flow, finish_instruction_of};
 
 use crate::raising::{access_error, is_due, raise_trap, refuse, trace_if, traces_all, with_ct};
+use def_processor::Finish;
 use mb_ea::ReadFault;
 use mb_encode::encode;
 use mb_entry::{line_fields, movem_fields, read_fields, write_fields};
 use mb_instr::{Instr, Plain};
 use mb_model::{Cpu, page_size_by};
 use mb_port::{Fault, Port};
-use mb_processor::Finish;
 use mb_writes::{Ended, Movem, MovemFault, WriteFault};
 
 /// After a refused fetch, read or locked check. The processor is as before the instruction.
 #[inline(never)]
-#[tactic(auto, unfolding(mb_processor::specs::Step::finish_unread_of))]
+#[tactic(auto, unfolding(def_processor::specs::Step::finish_unread_of))]
 pub(crate) fn finish_unread<P: Port>(refused: &ReadFault, cpu: &mut Cpu, port: &mut P) -> Finish
     ensures means { run P.bus (finish_unread_of refused.now cpu.old) (P.world port.old)
         ≡ ((result, cpu.new), P.world port.new) }

@@ -1,7 +1,7 @@
 //! One step of the processor, over any bus: the entry of an interrupt, an idle tick, or an instruction with the
 //! exceptions that it causes.
 //!
-//! Each function here does what its routine of `mb_processor` does, whatever the bus. A [`Processor`] keeps the
+//! Each function here does what its routine of `def_processor` does, whatever the bus. A [`Processor`] keeps the
 //! registers that user mode sees where instructions work on them. An instruction is carried out where it was decoded,
 //! on these registers in place; those before it stand beside, the only copy that a step makes. Exceptions are entered,
 //! and returned from, with the processor put together, in functions that stand outside the way of a step that has none.
@@ -19,7 +19,7 @@ mod returning;
 mod stepping;
 
 pub use decoder::Decoder;
-pub use mb_processor::{Finish, StepEnd};
+pub use def_processor::{Finish, StepEnd};
 pub use performing::perform;
 pub use processor::Processor;
 pub use raising::{access_error, unchecked};

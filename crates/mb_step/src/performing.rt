@@ -3,8 +3,8 @@
 ghost use Rattle.std.specs.Prelude.{◌≡◌, true};
 ghost use Rattle.mb_port.specs.Routine.{run};
 ghost use Rattle.mb_instr.specs.Codes.{IsInstr};
-ghost use Rattle.mb_meaning.specs.Rows.{perform_of};
-ghost use Rattle.mb_meaning.specs.Ends.{closing};
+ghost use Rattle.def_instructions.specs.Rows.{perform_of};
+ghost use Rattle.def_instructions.specs.Ends.{closing};
 ghost use Rattle.mb_operands.specs.Endings.{is_unread, performed_in_place};
 
 use mb_instr::vectors::PRIVILEGED;

@@ -3,7 +3,7 @@
 ghost use Rattle.std.specs.Prelude.{◌≡◌, length};
 ghost use Rattle.mb_instr.specs.Registers.{plain_of};
 ghost use Rattle.mb_model.specs.Status.{space_of};
-ghost use Rattle.mb_processor.specs.Step.{interrupt_mask};
+ghost use Rattle.def_processor.specs.Step.{interrupt_mask};
 
 use mb_instr::Plain;
 use mb_model::Cpu;
@@ -27,7 +27,7 @@ pub struct Processor {
 
 impl Model for Processor {
     ghost use Rattle.std.specs.Prelude.{◌<◌};
-    ghost use Rattle.mb_processor.specs.SystemEnds.{with_registers};
+    ghost use Rattle.def_processor.specs.SystemEnds.{with_registers};
     ghost use Rattle.mb_model.specs.declared.processor.Cpu.{Cpu};
 
     ghost Value = { Cpu };

@@ -3,18 +3,18 @@
 ghost use Rattle.std.specs.Prelude.{◌≡◌, ◌≢◌, ◌<◌, ◌||◌};
 ghost use Rattle.mb_port.specs.Routine.{run};
 ghost use Rattle.mb_instr.specs.Registers.{with_plain};
-ghost use Rattle.mb_processor.specs.SystemEnds.{with_registers};
-ghost use Rattle.mb_processor.specs.Raise.{traces_all, traces_flow, is_due, has_ct, with_ct, cause_at};
-ghost use Rattle.mb_processor.specs.Raise.{access_error_of, unchecked_of, raise_of, raise_last_of, interrupt_of, trace_of};
-ghost use Rattle.mb_processor.specs.Raise.{trace_if_of, raise_trap_of, refuse_of};
+ghost use Rattle.def_processor.specs.SystemEnds.{with_registers};
+ghost use Rattle.def_processor.specs.Raise.{traces_all, traces_flow, is_due, has_ct, with_ct, cause_at};
+ghost use Rattle.def_processor.specs.Raise.{access_error_of, unchecked_of, raise_of, raise_last_of, interrupt_of, trace_of};
+ghost use Rattle.def_processor.specs.Raise.{trace_if_of, raise_trap_of, refuse_of};
 
+use def_processor::Finish;
 use mb_entry::{Cause, Entered, check_fields, enter};
 use mb_frames::{Access, CT};
 use mb_instr::vectors::{ACCESS_ERROR, INTERRUPT, TRACE};
 use mb_instr::{Plain, Regs};
 use mb_model::Cpu;
 use mb_port::{Fault, Port};
-use mb_processor::Finish;
 use std::mem::{replace, swap};
 
 /// T1 asks for a trace after each instruction.
@@ -228,7 +228,7 @@ pub(crate) fn raise_trap<P: Port>(
 
 /// Enters the exception of an instruction at PC that is not carried out.
 #[inline(never)]
-#[tactic(auto, unfolding(mb_processor::specs::Raise::refuse_of))]
+#[tactic(auto, unfolding(def_processor::specs::Raise::refuse_of))]
 pub(crate) fn refuse<P: Port>(vector: u8, cpu: &mut Cpu, port: &mut P) -> Finish
     ensures means { run P.bus (refuse_of vector cpu.old) (P.world port.old)
         ≡ ((result, cpu.new), P.world port.new) }

@@ -2,15 +2,15 @@
 
 ghost use Rattle.std.specs.Prelude.{◌≡◌, ◌≢◌};
 ghost use Rattle.mb_port.specs.Routine.{run};
-ghost use Rattle.mb_processor.specs.Step.{is_due_by, finish_untransferred_again_of, rte_of};
+ghost use Rattle.def_processor.specs.Step.{is_due_by, finish_untransferred_again_of, rte_of};
 
 use crate::finishing::finish_unread;
 use crate::raising::{access_error, has_ct, is_due, refuse, trace_if, traces_all, with_ct};
+use def_processor::Finish;
 use mb_entry::{continues, movem_fields, return_held};
 use mb_frames::Access;
 use mb_model::{Cpu, page_size_by};
 use mb_port::Port;
-use mb_processor::Finish;
 use mb_writes::{Ended, MovemFault};
 
 /// The frame of an access error that RTE took: its fields and its PC. Without one all are 0.

@@ -2,15 +2,15 @@
 
 ghost use Rattle.std.specs.Prelude.{◌≡◌, ◌↔◌, ◌<◌, ◌≤◌, true};
 ghost use Rattle.mb_port.specs.Routine.{run};
-ghost use Rattle.mb_processor.specs.Raise.{by_its_end};
-ghost use Rattle.mb_processor.specs.Step.{Halts, interrupt_mask, rank, step_of};
+ghost use Rattle.def_processor.specs.Raise.{by_its_end};
+ghost use Rattle.def_processor.specs.Step.{Halts, interrupt_mask, rank, step_of};
 
 use crate::decoder::Decoder;
 use crate::fetching::execute_next;
 use crate::processor::Processor;
+use def_processor::{Finish, StepEnd};
 use mb_model::{Cpu, NON_MASKABLE};
 use mb_port::Port;
-use mb_processor::{Finish, StepEnd};
 
 /// How high an interrupt of a level stands beside a mask: one that is not masked is above every mask.
 #[inline(always)]

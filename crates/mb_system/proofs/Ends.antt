@@ -4,7 +4,7 @@ use Rattle.mb_instr.specs.declared.registers.Plain.{Plain}
 use Rattle.mb_model.specs.declared.processor.Cpu.{Cpu}
 use Rattle.mb_writes.specs.declared.ends.Ended.{Ended}
 use Rattle.mb_writes.specs.declared.ends.Ended.TheVariants as ends
-use Rattle.mb_processor.specs.SystemEnds.{SystemEnd, with_registers, within, system_performed_by, system_closed}
+use Rattle.def_processor.specs.SystemEnds.{SystemEnd, with_registers, within, system_performed_by, system_closed}
 use Rattle.mb_operands.specs.Endings.{IsUnfinished, cut_by}
 use Rattle.mb_system.specs.Ends.{SystemEnds}
 

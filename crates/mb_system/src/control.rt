@@ -3,9 +3,9 @@
 ghost use Rattle.std.specs.Prelude.{◌≡◌, ◌<◌, bit_and, IfErr};
 ghost use Rattle.mb_port.specs.Routine.{run};
 ghost use Rattle.mb_instr.specs.Control.{kept_bits};
-ghost use Rattle.mb_processor.specs.SystemEnds.{system_carried_by};
-ghost use Rattle.mb_processor.specs.Control.{named_control_in};
-ghost use Rattle.mb_processor.specs.Control.{control_value_of, set_control_of, move_to_control_of, move_from_control_of, movec_of};
+ghost use Rattle.def_processor.specs.SystemEnds.{system_carried_by};
+ghost use Rattle.def_processor.specs.Control.{named_control_in};
+ghost use Rattle.def_processor.specs.Control.{control_value_of, set_control_of, move_to_control_of, move_from_control_of, movec_of};
 ghost use Rattle.mb_system.specs.Ends.{SystemEnds};
 
 use mb_instr::ControlRegister;

@@ -3,8 +3,8 @@
 ghost use Rattle.std.specs.Prelude.{◌≡◌, IfErr};
 ghost use Rattle.mb_port.specs.Routine.{run};
 ghost use Rattle.mb_ea.specs.Addresses.{IsTarget, IsPlace};
-ghost use Rattle.mb_meaning.specs.Operands.{finish_with_of};
-ghost use Rattle.mb_processor.specs.SystemEnds.{finish_row_of, system_carried_by};
+ghost use Rattle.def_instructions.specs.Operands.{finish_with_of};
+ghost use Rattle.def_processor.specs.SystemEnds.{finish_row_of, system_carried_by};
 ghost use Rattle.mb_system.specs.Ends.{SystemEnds};
 
 use mb_ea::Target;

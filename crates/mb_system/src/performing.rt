@@ -6,8 +6,8 @@ ghost use Rattle.mb_instr.specs.Codes.{IsInstr};
 ghost use Rattle.mb_instr.specs.Shapes.{operands_at};
 ghost use Rattle.mb_instr.specs.Rows.{system_row};
 ghost use Rattle.mb_instr.specs.declared.instruction.Instr.TheVariants as instr;
-ghost use Rattle.mb_processor.specs.SystemEnds.{system_closing, system_performed_by};
-ghost use Rattle.mb_processor.specs.System.{perform_system_of};
+ghost use Rattle.def_processor.specs.SystemEnds.{system_closing, system_performed_by};
+ghost use Rattle.def_processor.specs.System.{perform_system_of};
 ghost use Rattle.mb_system.specs.Ends.{SystemEnds};
 
 use crate::control::movec;

@@ -6,10 +6,10 @@ ghost use Rattle.mb_port.specs.Flushes.{NamesPage};
 ghost use Rattle.mb_instr.specs.Operands.{IsEa, IsInMemory, IsDestination};
 ghost use Rattle.mb_instr.specs.FurtherWords.{register_word};
 ghost use Rattle.mb_ea.specs.Addresses.{IsTarget, IsMemory, IsPlace};
-ghost use Rattle.mb_processor.specs.SystemEnds.{system_carried_by};
+ghost use Rattle.def_processor.specs.SystemEnds.{system_carried_by};
 ghost use Rattle.mb_system.specs.Ends.{SystemEnds};
-ghost use Rattle.mb_processor.specs.Spaces.{function_space, load_register_of, move_out_of, move_in_of, moves_of};
-ghost use Rattle.mb_processor.specs.Spaces.{flushed_by, is_of_a_page as of_page, flush_beside_of, pflush_of, ptest_of};
+ghost use Rattle.def_processor.specs.Spaces.{function_space, load_register_of, move_out_of, move_in_of, moves_of};
+ghost use Rattle.def_processor.specs.Spaces.{flushed_by, is_of_a_page as of_page, flush_beside_of, pflush_of, ptest_of};
 
 use crate::finishing::finish_row;
 use mb_ea::{Target, read_value, resolve};

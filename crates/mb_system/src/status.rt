@@ -3,10 +3,10 @@
 ghost use Rattle.std.specs.Prelude.{◌≡◌, ◌<◌, IfErr};
 ghost use Rattle.mb_port.specs.Routine.{run};
 ghost use Rattle.mb_instr.specs.Operands.{IsEa, IsDestination};
-ghost use Rattle.mb_processor.specs.SystemEnds.{system_performed_by, system_carried_by};
+ghost use Rattle.def_processor.specs.SystemEnds.{system_performed_by, system_carried_by};
 ghost use Rattle.mb_system.specs.Ends.{SystemEnds};
-ghost use Rattle.mb_processor.specs.Status.{with_status, change_status_of, move_to_status_of, move_from_status_of, stop_of};
-ghost use Rattle.mb_processor.specs.Status.{move_to_usp_of, move_from_usp_of, move_usp_of};
+ghost use Rattle.def_processor.specs.Status.{with_status, change_status_of, move_to_status_of, move_from_status_of, stop_of};
+ghost use Rattle.def_processor.specs.Status.{move_to_usp_of, move_from_usp_of, move_usp_of};
 
 use crate::finishing::finish_row;
 use mb_alu::{LogicKind, logic};

@@ -2,7 +2,7 @@
 //! both show the same.
 
 ghost use Rattle.std.specs.Prelude.{◌≡◌, ◌<◌, ◌^◌, length, IfSome};
-ghost use Rattle.vm_machine.specs.Seats.{IsSeated};
+ghost use Rattle.def_guests.specs.Seats.{IsSeated};
 
 mod big_pages;
 mod timed;

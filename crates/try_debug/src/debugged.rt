@@ -2,7 +2,7 @@
 
 ghost use Rattle.std.specs.Prelude.{◌≡◌, All, IfSome};
 ghost use Rattle.mb_srec.specs.Image.{contents_of, LiesBelow};
-ghost use Rattle.vm_machine.specs.Seats.{IsSeated};
+ghost use Rattle.def_guests.specs.Seats.{IsSeated};
 
 use mb_board::{Board, Native};
 use mb_outside::{MemSink, SinkFault};

@@ -6,10 +6,10 @@ ghost use Rattle.mb_instr.specs.Operands.{IsEa};
 use mb_ea::{ReadFault, Target, find_target, read_operand, read_value, resolve};
 use mb_instr::{Ea, Ext, Plain, Size};
 use mb_port::Space;
-use mb_vector::VectorPort;
 use mb_writes::write_operand;
 use std::alloc::{AllocError, Global};
 use std::process::Abort;
+use try_vector::VectorPort;
 
 /// Sixty-four KiB of zeros, but for a long.
 fn memory(alloc: Global, at: u32, long: u32) -> Result<VectorPort, AllocError> {

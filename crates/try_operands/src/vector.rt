@@ -1,8 +1,8 @@
 //! The calls of the port, by hand.
 
 use mb_port::{Fault, Mmu, MmuReg, Piece, Port, Space};
-use mb_vector::VectorPort;
 use std::alloc::{AllocError, Global};
+use try_vector::VectorPort;
 
 /// The registers of translation after reset.
 pub(crate) const NO_MMU: Mmu = Mmu {

@@ -10,10 +10,10 @@ use Write::{Apart, Operand};
 use mb_frames::Pend;
 use mb_instr::{Plain, Size};
 use mb_port::Space;
-use mb_vector::VectorPort;
 use mb_writes::{Movem, complete, continue_movem, count, transfer, write_apart, write_operand};
 use std::alloc::{AllocError, Global};
 use std::process::Abort;
+use try_vector::VectorPort;
 
 /// Whether it has the place and length of a piece.
 fn is_pending(pend: &Pend) -> bool

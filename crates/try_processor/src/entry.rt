@@ -4,10 +4,10 @@ mod accesses;
 mod entries;
 mod returns;
 
+use def_processor::Cause;
 use mb_frames::Access;
 use mb_instr::Regs;
 use mb_model::Cpu;
-use mb_processor::Cause;
 
 /// How many longs of memory there are: 64 KiB.
 const LONGS: usize = 0x4000;

@@ -9,9 +9,9 @@ use mb_ops_arith::perform_arith;
 use mb_ops_flow::perform_flow;
 use mb_ops_move::perform_move;
 use mb_port::Space;
-use mb_vector::VectorPort;
 use mb_writes::Ended;
 use std::alloc::AllocError;
+use try_vector::VectorPort;
 
 /// How an instruction ended, in short.
 #[derive(Clone, Copy, Debug, PartialEq, Eq)]

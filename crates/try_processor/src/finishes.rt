@@ -11,10 +11,10 @@ ghost use Rattle.mb_writes.specs.Transfers.{count_of, mask_in};
 use crate::steps::{memory, processor, stands};
 use mb_model::Cpu;
 use mb_step::StepEnd;
-use mb_vector::VectorPort;
 use mb_writes::count;
 use std::alloc::{AllocError, Global};
 use std::process::Abort;
+use try_vector::VectorPort;
 
 /// The guest's status register: user mode, with X, Z and C.
 const GUEST: u16 = 0x0015;

@@ -7,9 +7,9 @@ use mb_instr::{ControlRegister, Instr, Regs, System};
 use mb_model::Cpu;
 use mb_port::{Mmu, Space};
 use mb_system::perform_system;
-use mb_vector::VectorPort;
 use mb_writes::Ended;
 use std::alloc::{AllocError, Global};
+use try_vector::VectorPort;
 
 /// Where the instruction stands.
 const AT: u32 = 0x400;

@@ -11,8 +11,8 @@ use mb_instr::Regs;
 use mb_model::Cpu;
 use mb_port::{Piece, Port, Space};
 use mb_step::{Decoder, StepEnd, step};
-use mb_vector::VectorPort;
 use std::alloc::{AllocError, Global};
+use try_vector::VectorPort;
 
 /// No byte is refused by a hole.
 pub(crate) const NO_HOLE: u32 = u32::MAX;

@@ -6,7 +6,7 @@ use Rattle.std.proofs.Math.Seq.{drop-cons}
 use Rattle.mb_outside.specs.Sink.{Grows}
 use Rattle.mb_outside.specs.Prints.{Printed, PrintedPart}
 use Rattle.mb_outside.proofs.PrintLemmas.{printed_then, part_then, part_more}
-use Rattle.vm_machine.specs.Seats.{IsSeated, Scene}
+use Rattle.def_guests.specs.Seats.{IsSeated, Scene}
 use Rattle.vm_guest.specs.Turns.{RisesByAtMost}
 use Rattle.vm_debug.specs.declared.command.Command.{Command}
 use Rattle.vm_debug.specs.Debugs.{after, printed, printed_by}

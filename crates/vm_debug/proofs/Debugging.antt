@@ -6,7 +6,7 @@ use Rattle.std.proofs.lemmas.Bool.Decides.{nat_tests}
 use Rattle.std.proofs.lemmas.List.{append_assoc, length_push}
 use Rattle.std.proofs.lemmas.List.Sums.{length-filter, count_by-le-length}
 use Rattle.mb_model.specs.Keeping.{rule_k}
-use Rattle.mb_machine.specs.Machine.{Machine, run_of, takes_steps}
+use Rattle.def_machine.specs.Machine.{Machine, run_of, takes_steps}
 use Rattle.vm_debug.specs.declared.command.Command.{Command}
 use Rattle.vm_debug.specs.declared.command.Command.TheVariants.{Step, Go, Break, Clear, Regs, Mem, Kept}
 use Rattle.vm_debug.specs.declared.debugger.TheConstants.{MOST_BREAKS}

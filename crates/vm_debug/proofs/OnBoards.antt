@@ -5,13 +5,13 @@ use Rattle.std.proofs.lemmas.Bool.{cases_Bool}
 use Rattle.mb_model.specs.declared.outcome.RunState.{RunState}
 use Rattle.mb_model.specs.declared.outcome.RunState.TheVariants.{Running, Stopped, Halted, Off}
 use Rattle.mb_model.specs.Keeping.{rule_k}
-use Rattle.mb_machine.specs.Machine.{Entries, Machine, run_of, takes_steps}
-use Rattle.vm_meaning.specs.Native.{NativeState}
-use Rattle.vm_machine.specs.Turns.{Turned, turn_of}
-use Rattle.vm_machine.specs.Seats.{turned_on, IsSeated, Scene, Takes}
-use Rattle.vm_machine.proofs.ByRule.{turns_by_rule}
-use Rattle.vm_machine.proofs.Seated.{takes_add, nothing_is_taken}
-use Rattle.vm_machine.proofs.TurnLaws.{halted_turn, nothing_turned, turns_add}
+use Rattle.def_machine.specs.Machine.{Entries, Machine, run_of, takes_steps}
+use Rattle.def_runs.specs.Native.{NativeState}
+use Rattle.def_guests.specs.Turns.{Turned, turn_of}
+use Rattle.def_guests.specs.Seats.{turned_on, IsSeated, Scene, Takes}
+use Rattle.def_guests.proofs.ByRule.{turns_by_rule}
+use Rattle.def_guests.proofs.Seated.{takes_add, nothing_is_taken}
+use Rattle.def_guests.proofs.TurnLaws.{halted_turn, nothing_turned, turns_add}
 use Rattle.vm_guest.specs.Turns.{RisesByAtMost}
 use Rattle.vm_saved.proofs.Runs.{going_runs_count, halted_run}
 use Rattle.vm_debug.specs.declared.command.Command.{Command}

@@ -2,9 +2,9 @@
 use Rattle.std.specs.Prelude.{◌≡◌, ℕ, zero, suc, ◌-◌, ◌≤◌, false, List, [], ◌∷◌, ◌++◌, Option}
 use Rattle.mb_outside.specs.Prints.{PrintedPart}
 use Rattle.mb_outside.specs.Sink.{Grows}
-use Rattle.mb_machine.specs.Machine.{Machine, takes_steps}
-use Rattle.vm_machine.specs.Turns.{turn_of}
-use Rattle.vm_machine.specs.Seats.{machine_on, turned_on, IsSeated, Scene, Takes}
+use Rattle.def_machine.specs.Machine.{Machine, takes_steps}
+use Rattle.def_guests.specs.Turns.{turn_of}
+use Rattle.def_guests.specs.Seats.{machine_on, turned_on, IsSeated, Scene, Takes}
 use Rattle.vm_debug.specs.declared.command.Command.{Command}
 use Rattle.vm_debug.specs.Debugs.{Course, Debugging, course_from, debugged, printed, printed_by}
 

@@ -6,7 +6,7 @@ use Rattle.mb_model.specs.declared.outcome.RunState.{RunState}
 use Rattle.mb_model.specs.declared.outcome.RunState.TheVariants.{Running}
 use Rattle.mb_model.specs.declared.kept.Kept as kept
 use Rattle.mb_model.specs.Keeping.{rule_k, list_of}
-use Rattle.mb_machine.specs.Machine.{Entries, Machine, run_of, seen_machine, takes_steps}
+use Rattle.def_machine.specs.Machine.{Entries, Machine, run_of, seen_machine, takes_steps}
 use Rattle.mb_report.specs.Digits.{hex8}
 use Rattle.mb_report.specs.Kept.{kept_line}
 use Rattle.mb_report.specs.Text.{count_line, line_text, register_lines, row_line, state_word, word_line}

@@ -1,6 +1,6 @@
 -- What holds of a debugger's commands along every course.
 use Rattle.std.specs.Prelude.{◌≡◌, ◌⊎◌, ℕ, ◌+◌, ◌<◌, ◌≤◌, true, false, List, ◌++◌, length}
-use Rattle.mb_machine.specs.Machine.{Entries, Machine}
+use Rattle.def_machine.specs.Machine.{Entries, Machine}
 use Rattle.vm_debug.specs.declared.command.Command.{Command}
 use Rattle.vm_debug.specs.declared.debugger.TheConstants.{MOST_BREAKS}
 use Rattle.vm_debug.specs.Debugs.{Course, Debugging, course_from, debugged, ends_at, going_on, printed}

@@ -2,7 +2,7 @@
 
 ghost use Rattle.std.specs.Prelude.{◌≡◌, ◌+◌, ◌-◌, ◌*◌, ◌^◌, ◌<◌, ◌≤◌, OnErr, OnOk, length};
 ghost use Rattle.mb_outside.specs.Prints.{Prints};
-ghost use Rattle.vm_machine.specs.Seats.{machine_on, IsSeated};
+ghost use Rattle.def_guests.specs.Seats.{machine_on, IsSeated};
 ghost use Rattle.vm_guest.specs.Turns.{scene, RisesByAtMost};
 ghost use Rattle.vm_debug.specs.Debugs.{after, break_line, clear_line, debugged, end_line, printed, printed_by};
 ghost use Rattle.vm_debug.specs.Debugs.{with_break, without_break};

@@ -1,7 +1,7 @@
 //! Steps of a debugger's guest.
 
 ghost use Rattle.std.specs.Prelude.{◌≡◌, ◌+◌, ◌*◌, ◌^◌, ◌<◌, ◌≤◌, length};
-ghost use Rattle.vm_machine.specs.Seats.{machine_on, IsSeated};
+ghost use Rattle.def_guests.specs.Seats.{machine_on, IsSeated};
 ghost use Rattle.vm_guest.specs.Turns.{end_by, scene, RisesByAtMost};
 ghost use Rattle.vm_debug.specs.Debugs.{ends_at, going_on, is_at_break, up_to};
 ghost use Rattle.vm_debug.specs.Boards.{course_of, HasCome};

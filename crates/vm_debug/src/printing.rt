@@ -7,7 +7,7 @@ ghost use Rattle.mb_report.specs.Digits.{hex8};
 ghost use Rattle.mb_report.specs.Kept.{kept_line};
 ghost use Rattle.mb_report.specs.Text.{word_line};
 ghost use Rattle.std.specs.List.{flat_map};
-ghost use Rattle.vm_machine.specs.Seats.{machine_on};
+ghost use Rattle.def_guests.specs.Seats.{machine_on};
 ghost use Rattle.vm_debug.specs.Debugs.{kept_text, place_line, registers_text, rows_text};
 
 use itoa::Buffer;

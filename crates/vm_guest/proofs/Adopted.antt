@@ -32,11 +32,11 @@ use Rattle.vm_shadow.proofs.Alone.{tables_are_of_the_area}
 use Rattle.vm_shadow.proofs.Needed.{tables_are_needed}
 use Rattle.vm_port.proofs.Owns.{own_nothing}
 use Rattle.std.proofs.Math.Path.{fun_ext}
-use Rattle.vm_machine.specs.Guests.{Truthful}
-use Rattle.vm_machine.specs.Turns.{Tally, Turned, no_steps}
-use Rattle.vm_machine.specs.Seats.{Seat, on_board, own, shadow_on, turned_on, IsSeated}
+use Rattle.def_guests.specs.Guests.{Truthful}
+use Rattle.def_guests.specs.Turns.{Tally, Turned, no_steps}
+use Rattle.def_guests.specs.Seats.{Seat, on_board, own, shadow_on, turned_on, IsSeated}
 use Rattle.vm_saved.specs.Begins.{beginning}
-use Rattle.vm_held.proofs.Flushes.{nothing_truthful}
+use Rattle.law_held.proofs.Flushes.{nothing_truthful}
 use Rattle.vm_guest.specs.Memory.{OnlyBetween, chunk_from, contents_from}
 use Rattle.vm_guest.proofs.Loads.{length-zeros, loads_all, only_both, only_over, part_zeros, zeros}
 use Rattle.vm_guest.proofs.Prepared.{cleared_count}

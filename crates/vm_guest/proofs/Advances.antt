@@ -7,23 +7,23 @@ use Rattle.mb_model.specs.declared.outcome.RunState.{RunState}
 use Rattle.mb_model.specs.declared.outcome.RunState.TheVariants.{Running}
 use Rattle.mb_walk.specs.Memory.{AreBytes}
 use Rattle.mb_devices.specs.Devices.{DeviceState, IsNotDue, passed}
-use Rattle.mb_machine.specs.Machine.{arrived, takes_steps}
+use Rattle.def_machine.specs.Machine.{arrived, takes_steps}
 use Rattle.mb_board.specs.Fits.{FitsAlong}
 use Rattle.mb_board.specs.State.{BoardState, ran_to}
-use Rattle.vm_meaning.specs.declared.RunEnd.{RunEnd}
-use Rattle.vm_meaning.specs.declared.RunEnd.TheVariants.{Counted, Exit, Gone}
-use Rattle.vm_meaning.specs.Native.{NativeState, Ran}
-use Rattle.vm_machine.specs.declared.class.Class.{Class}
-use Rattle.vm_machine.specs.declared.class.Class.TheVariants as class
-use Rattle.vm_machine.specs.Bus.{guest_bus}
-use Rattle.vm_machine.specs.Turns.{tallied, bus_side}
-use Rattle.vm_machine.specs.Seats.{Seat, end_of, guested_on, turned_on, IsSame, IsSeated, Scene, Takes}
-use Rattle.vm_machine.proofs.TurnLaws.{going_turn}
-use Rattle.vm_step.specs.Idle.{idle_seat}
-use Rattle.vm_step.specs.Taking.{IsLeft, retired_seat, settled}
-use Rattle.vm_step.proofs.Retire.{off_arrived, off_ticked}
+use Rattle.def_runs.specs.declared.RunEnd.{RunEnd}
+use Rattle.def_runs.specs.declared.RunEnd.TheVariants.{Counted, Exit, Gone}
+use Rattle.def_runs.specs.Native.{NativeState, Ran}
+use Rattle.def_guests.specs.declared.class.Class.{Class}
+use Rattle.def_guests.specs.declared.class.Class.TheVariants as class
+use Rattle.def_guests.specs.Bus.{guest_bus}
+use Rattle.def_guests.specs.Turns.{tallied, bus_side}
+use Rattle.def_guests.specs.Seats.{Seat, end_of, guested_on, turned_on, IsSame, IsSeated, Scene, Takes}
+use Rattle.def_guests.proofs.TurnLaws.{going_turn}
+use Rattle.law_turns.specs.Idle.{idle_seat}
+use Rattle.law_turns.specs.Taking.{IsLeft, retired_seat, settled}
+use Rattle.law_turns.proofs.Retire.{off_arrived, off_ticked}
 use Rattle.vm_guest.specs.Memory.{OnlyBetween}
-use Rattle.vm_machine.specs.Classes.{assisted}
+use Rattle.def_guests.specs.Classes.{assisted}
 use Rattle.vm_guest.specs.Counting.{NoneDue}
 use Rattle.vm_guest.specs.declared.rest.Rest.TheVariants.{Whole}
 use Rattle.vm_guest.specs.Rests.{rest_in}

@@ -4,16 +4,16 @@ use Rattle.std.proofs.lemmas.List.{length-append}
 use Rattle.mb_instr.specs.declared.registers.Plain.{Plain}
 use Rattle.mb_instr.specs.declared.registers.Regs.{Regs}
 use Rattle.mb_instr.specs.Registers.{active_stack, plain_of}
-use Rattle.mb_processor.specs.declared.Finish.{Finish}
-use Rattle.mb_machine.specs.Machine.{Machine, Entries}
-use Rattle.vm_meaning.specs.declared.RunEnd.TheVariants.{Gone}
-use Rattle.vm_meaning.specs.Native.{Ran, user_step, ran_by, goes_on, end_of}
-use Rattle.vm_mirror.specs.Related.{Site}
-use Rattle.vm_machine.specs.Turns.{Guested, guest_stepped}
-use Rattle.vm_step.specs.Retire.{Boarded, HasRegisters, Retires}
-use Rattle.vm_step.specs.Batch.{Wanted}
-use Rattle.vm_step.specs.Quiet.{AreWanted}
-use Rattle.vm_step.proofs.Retire.{retired_steps}
+use Rattle.def_processor.specs.declared.Finish.{Finish}
+use Rattle.def_machine.specs.Machine.{Machine, Entries}
+use Rattle.def_runs.specs.declared.RunEnd.TheVariants.{Gone}
+use Rattle.def_runs.specs.Native.{Ran, user_step, ran_by, goes_on, end_of}
+use Rattle.law_mirror.specs.Related.{Site}
+use Rattle.def_guests.specs.Turns.{Guested, guest_stepped}
+use Rattle.law_turns.specs.Retire.{Boarded, HasRegisters, Retires}
+use Rattle.law_turns.specs.Batch.{Wanted}
+use Rattle.law_turns.specs.Quiet.{AreWanted}
+use Rattle.law_turns.proofs.Retire.{retired_steps}
 use Rattle.mb_board.specs.Fits.{IsFit, FitsAlong}
 
 seven_of : (r : Regs) → length (plain_of r).a ≡ 8 → length r.a ≡ 7

@@ -2,17 +2,17 @@
 use Rattle.std.proofs.Common.{◌≡◌, ℕ, ◌≤◌, List, Bool, true, false, cond, nat_lt, Option, Some, None, refl, ap}
 use Rattle.std.specs.Prelude.{unwrap_or}
 use Rattle.mb_model.specs.declared.processor.Cpu.{Cpu}
-use Rattle.mb_processor.specs.Step.{interrupt_mask, rank}
-use Rattle.vm_machine.specs.declared.class.Class.{Class}
-use Rattle.vm_machine.specs.declared.class.Class.TheVariants.{Entered, Idle, Traced}
-use Rattle.vm_machine.specs.Guests.{Guest}
-use Rattle.vm_machine.specs.Refills.{refilled}
-use Rattle.vm_machine.specs.Classes.{assisted, class_of, class_of_attempt, is_traced}
-use Rattle.vm_machine.specs.Turns.{class_of_step, step_class_at_first}
-use Rattle.vm_machine.specs.Seats.{Seat, guested_on}
-use Rattle.vm_step.specs.Batch.{IsTried}
-use Rattle.vm_step.proofs.Retire.{not_above, not_less}
-use Rattle.vm_step.proofs.Quiet.{tried_class}
+use Rattle.def_processor.specs.Step.{interrupt_mask, rank}
+use Rattle.def_guests.specs.declared.class.Class.{Class}
+use Rattle.def_guests.specs.declared.class.Class.TheVariants.{Entered, Idle, Traced}
+use Rattle.def_guests.specs.Guests.{Guest}
+use Rattle.def_guests.specs.Refills.{refilled}
+use Rattle.def_guests.specs.Classes.{assisted, class_of, class_of_attempt, is_traced}
+use Rattle.def_guests.specs.Turns.{class_of_step, step_class_at_first}
+use Rattle.def_guests.specs.Seats.{Seat, guested_on}
+use Rattle.law_turns.specs.Batch.{IsTried}
+use Rattle.law_turns.proofs.Retire.{not_above, not_less}
+use Rattle.law_turns.proofs.Quiet.{tried_class}
 use Rattle.vm_guest.specs.Turns.{begun_seat, level_on}
 
 pub inner : (b c : Class) → (let o : Option Class = Some b in o) ≡ Some c → b ≡ c

@@ -3,13 +3,13 @@ use Rattle.std.proofs.Common.{◌≡◌, ◌∙◌, ℕ, refl, ap, sym}
 use Rattle.mb_model.specs.declared.processor.Cpu.{Cpu}
 use Rattle.mb_model.specs.declared.outcome.RunState.{RunState}
 use Rattle.mb_devices.specs.Devices.{DeviceState}
-use Rattle.mb_processor.specs.declared.Finish.{Finish}
-use Rattle.mb_processor.specs.declared.Finish.TheVariants as finish
-use Rattle.mb_processor.specs.declared.StepEnd.{StepEnd}
-use Rattle.mb_processor.specs.Raise.{Stepped, by_its_end, step_end}
-use Rattle.mb_machine.specs.Machine.{state_after}
-use Rattle.vm_machine.specs.Guests.{Guest}
-use Rattle.vm_machine.specs.Turns.{Guested}
+use Rattle.def_processor.specs.declared.Finish.{Finish}
+use Rattle.def_processor.specs.declared.Finish.TheVariants as finish
+use Rattle.def_processor.specs.declared.StepEnd.{StepEnd}
+use Rattle.def_processor.specs.Raise.{Stepped, by_its_end, step_end}
+use Rattle.def_machine.specs.Machine.{state_after}
+use Rattle.def_guests.specs.Guests.{Guest}
+use Rattle.def_guests.specs.Turns.{Guested}
 use Rattle.vm_guest.specs.Turns.{ended_at, state_by}
 
 state_is : (f : Finish) (cpu : Cpu) (d : DeviceState) → state_after f cpu d ≡ state_by (step_end f) cpu d

@@ -2,12 +2,12 @@
 use Rattle.std.proofs.Common.{◌≡◌, ◌∙◌, ℕ, ◌+◌, ap, sym, subst}
 use Rattle.std.specs.Prelude.{replicate}
 use Rattle.mb_model.specs.Keeping.{rule_k}
-use Rattle.mb_machine.specs.Machine.{Opening, Entries, Machine, opening_devices, start, run_of}
+use Rattle.def_machine.specs.Machine.{Opening, Entries, Machine, opening_devices, start, run_of}
 use Rattle.mb_walk.specs.Memory.{with_contents}
-use Rattle.vm_meaning.proofs.Runs.{run-from_reset}
-use Rattle.vm_machine.specs.Turns.{Turned, prepared, turn_of}
-use Rattle.vm_machine.proofs.ByRule.{guests_run_alone, turns_by_rule}
-use Rattle.vm_machine.proofs.TurnLaws.{turns_add}
+use Rattle.def_runs.proofs.Runs.{run-from_reset}
+use Rattle.def_guests.specs.Turns.{Turned, prepared, turn_of}
+use Rattle.def_guests.proofs.ByRule.{guests_run_alone, turns_by_rule}
+use Rattle.def_guests.proofs.TurnLaws.{turns_add}
 use Rattle.vm_guest.specs.Turns.{ComesFreely, GoesOnFreely}
 
 -- so many steps from an image's start, and then so many more

@@ -2,9 +2,9 @@
 use Rattle.std.proofs.Common.{◌≡◌, ◌≢◌, ◌∙◌, ℕ, ◌+◌, ◌<◌, ◌==◌, Bool, true, false, cond, List, [], ap, sym, subst, inl, inr, arith}
 use Rattle.std.proofs.lemmas.Bool.{cases_lt}
 use Rattle.std.proofs.lemmas.Bool.Decides.{nat_tests}
-use Rattle.vm_machine.specs.Seats.{Seat, end_of, turned_on, IsSeated}
-use Rattle.vm_machine.specs.Stages.{Stage, AllSeated, LieApart}
-use Rattle.vm_machine.proofs.Seated.{Alone, alone, turned_alone}
+use Rattle.def_guests.specs.Seats.{Seat, end_of, turned_on, IsSeated}
+use Rattle.def_guests.specs.Stages.{Stage, AllSeated, LieApart}
+use Rattle.def_guests.proofs.Seated.{Alone, alone, turned_alone}
 use Rattle.vm_guest.specs.Memory.{OnlyBetween}
 use Rattle.vm_guest.specs.Joining.{joined, GuestsJoin}
 use Rattle.vm_guest.proofs.Seated.{only_within}

@@ -1,12 +1,12 @@
 -- What the fields of an access error leave of a MOVEM.
 use Rattle.std.proofs.Common.{◌≡◌, ◌≤◌, Bool, true, false, cond}
 use Rattle.mb_frames.specs.declared.frame.Access.{Access}
-use Rattle.mb_processor.specs.Return.{continues}
+use Rattle.def_processor.specs.Return.{continues}
 use Rattle.mb_writes.specs.Transfers.{count_of, mask_in}
-use Rattle.vm_meaning.specs.declared.left.LeftOver.{LeftOver}
-use Rattle.vm_meaning.specs.declared.left.LeftOver.TheVariants.{Movem}
-use Rattle.vm_meaning.specs.Frames.{left_in}
-use Rattle.vm_step.specs.Lawful.{IsLawfulLeftOver}
+use Rattle.def_runs.specs.declared.left.LeftOver.{LeftOver}
+use Rattle.def_runs.specs.declared.left.LeftOver.TheVariants.{Movem}
+use Rattle.def_runs.specs.Frames.{left_in}
+use Rattle.law_turns.specs.Lawful.{IsLawfulLeftOver}
 
 by_case : (b : Bool) (l m : LeftOver) → b ≡ true → IsLawfulLeftOver (cond b l m) → IsLawfulLeftOver l
 by_case true l m is h = h

@@ -9,14 +9,14 @@ use Rattle.mb_model.specs.declared.processor.Cpu.{Cpu}
 use Rattle.mb_model.specs.declared.outcome.RunState.TheVariants.{Running}
 use Rattle.mb_model.specs.Keeping.{rule_a, nothing_kept}
 use Rattle.mb_devices.specs.Devices.{DeviceState, restarted}
-use Rattle.mb_processor.specs.SystemEnds.{with_registers}
-use Rattle.mb_machine.specs.World.{World}
-use Rattle.mb_machine.specs.Bus.{after_set_mmu}
-use Rattle.mb_machine.specs.Machine.{reset_with, with_cpu}
+use Rattle.def_processor.specs.SystemEnds.{with_registers}
+use Rattle.def_machine.specs.World.{World}
+use Rattle.def_machine.specs.Bus.{after_set_mmu}
+use Rattle.def_machine.specs.Machine.{reset_with, with_cpu}
 use Rattle.mb_board.specs.Beside.{Beside, beside}
 use Rattle.mb_board.specs.State.{BoardState, board_at_reset, machine_in, with_machine, no_registers}
 use Rattle.vm_shadow.specs.Mapped.{root_of}
-use Rattle.vm_mirror.specs.Ready.{native_mmu}
+use Rattle.law_mirror.specs.Ready.{native_mmu}
 use Rattle.vm_guest.specs.Native.{native_cpu, ready}
 
 -- a root that stands at a multiple of 512 is kept whole

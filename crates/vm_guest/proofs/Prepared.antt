@@ -11,19 +11,19 @@ use Rattle.mb_walk.specs.Memory.{Contents, number_at, overwritten, part, with_co
 use Rattle.mb_walk.proofs.MemoryLemmas.{length-overwritten}
 use Rattle.mb_walk.proofs.Parts.{number-part}
 use Rattle.mb_devices.specs.Devices.{DeviceState, idle}
-use Rattle.mb_machine.specs.Machine.{Entries, diskless, reset_with}
+use Rattle.def_machine.specs.Machine.{Entries, diskless, reset_with}
 use Rattle.vm_shadow.specs.Slots.{Slots}
 use Rattle.vm_shadow.specs.Shadows.{Shadowed, nothing}
 use Rattle.vm_shadow.specs.Mapped.{shadowed}
 use Rattle.vm_shadow.specs.declared.area.TheConstants.{AREA_BYTES}
 use Rattle.vm_shadow.specs.Area.{Maps}
-use Rattle.vm_machine.specs.Guests.{Truthful}
-use Rattle.vm_machine.specs.Turns.{Tally, Turned, no_steps, prepared}
-use Rattle.vm_machine.specs.Seats.{Seat, on_board, own, turned_on, IsSeated}
-use Rattle.vm_machine.specs.declared.limits.TheConstants.{MONITOR_BYTES}
+use Rattle.def_guests.specs.Guests.{Truthful}
+use Rattle.def_guests.specs.Turns.{Tally, Turned, no_steps, prepared}
+use Rattle.def_guests.specs.Seats.{Seat, on_board, own, turned_on, IsSeated}
+use Rattle.def_guests.specs.declared.limits.TheConstants.{MONITOR_BYTES}
 use Rattle.vm_port.proofs.Frames.{around}
 use Rattle.vm_port.proofs.Owns.{own_nothing, placed_nothing}
-use Rattle.vm_held.proofs.Flushes.{nothing_truthful}
+use Rattle.law_held.proofs.Flushes.{nothing_truthful}
 use Rattle.vm_guest.specs.Memory.{OnlyBetween, contents_from}
 use Rattle.vm_guest.proofs.Loads.{loads_all, only_over, only_both, part_zeros, length-zeros, zeros}
 

@@ -1,8 +1,8 @@
 -- A read of a seated guest that is filled and put.
 use Rattle.std.proofs.Common.{◌≡◌, ◌∙◌, Bool, true, false, cond, Option, Some, None, refl, ap, sym}
-use Rattle.mb_machine.specs.declared.reference.Reference.{Reference}
-use Rattle.vm_machine.specs.Guests.{Guest}
-use Rattle.vm_machine.specs.Refills.{after_access, can_refill, refilled_at}
+use Rattle.def_machine.specs.declared.reference.Reference.{Reference}
+use Rattle.def_guests.specs.Guests.{Guest}
+use Rattle.def_guests.specs.Refills.{after_access, can_refill, refilled_at}
 
 -- where the bus answers whether it did
 pub answered : (g h : Guest) (r : Reference) (b : Bool) → b ≡ can_refill g r → h ≡ cond b (after_access r g) g

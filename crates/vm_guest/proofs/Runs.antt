@@ -6,28 +6,28 @@ use Rattle.mb_model.specs.declared.outcome.RunState.TheVariants.{Running}
 use Rattle.mb_walk.specs.Memory.{AreBytes}
 use Rattle.mb_devices.specs.Devices.{DeviceState, restarted, ticked, ticks, passed, IsNotDue}
 use Rattle.mb_devices.proofs.Passing.{ticks_pass}
-use Rattle.mb_processor.specs.SystemEnds.{with_registers}
-use Rattle.mb_machine.specs.Machine.{going}
+use Rattle.def_processor.specs.SystemEnds.{with_registers}
+use Rattle.def_machine.specs.Machine.{going}
 use Rattle.mb_board.specs.Fits.{FitsAlong}
 use Rattle.mb_board.specs.State.{BoardState}
-use Rattle.vm_meaning.specs.declared.RunEnd.TheVariants.{Counted, Exit, Gone}
-use Rattle.vm_meaning.specs.Batches.{NothingArrives}
-use Rattle.vm_meaning.specs.Native.{NativeState, Ran, user_run}
-use Rattle.vm_machine.specs.declared.class.Class.TheVariants.{Retired}
-use Rattle.vm_machine.specs.Turns.{guest_begun, step_class_at_first, refills_of_step}
-use Rattle.vm_machine.specs.Seats.{Seat, guested_on, turned_on, IsSeated, Takes}
-use Rattle.vm_machine.specs.declared.limits.TheConstants.{MONITOR_BYTES}
-use Rattle.vm_step.specs.Batch.{AllRetired, Batch, IsStretch, stepped_by}
-use Rattle.vm_step.specs.Retire.{Boarded}
-use Rattle.vm_step.specs.Exit.{Furnished}
-use Rattle.vm_step.specs.Turn.{IsNativeCpu, IsSetFor}
-use Rattle.vm_step.specs.Taking.{IsLeft, retired_seat, settled, site_of}
-use Rattle.vm_step.proofs.Batch.{runs_are_batches}
-use Rattle.vm_step.proofs.Refill.{first_is_last}
-use Rattle.vm_step.proofs.Quiet.{only_ticks, quiet_steps_are_tried, retired_steps_tick}
-use Rattle.vm_step.proofs.Turn.{boards_are_ready, flushed_is_set}
-use Rattle.vm_step.proofs.Taking.{batches_take, exits_take, is_counted, stands_of}
-use Rattle.vm_machine.specs.Classes.{assisted}
+use Rattle.def_runs.specs.declared.RunEnd.TheVariants.{Counted, Exit, Gone}
+use Rattle.def_runs.specs.Batches.{NothingArrives}
+use Rattle.def_runs.specs.Native.{NativeState, Ran, user_run}
+use Rattle.def_guests.specs.declared.class.Class.TheVariants.{Retired}
+use Rattle.def_guests.specs.Turns.{guest_begun, step_class_at_first, refills_of_step}
+use Rattle.def_guests.specs.Seats.{Seat, guested_on, turned_on, IsSeated, Takes}
+use Rattle.def_guests.specs.declared.limits.TheConstants.{MONITOR_BYTES}
+use Rattle.law_turns.specs.Batch.{AllRetired, Batch, IsStretch, stepped_by}
+use Rattle.law_turns.specs.Retire.{Boarded}
+use Rattle.law_turns.specs.Exit.{Furnished}
+use Rattle.law_turns.specs.Turn.{IsNativeCpu, IsSetFor}
+use Rattle.law_turns.specs.Taking.{IsLeft, retired_seat, settled, site_of}
+use Rattle.law_turns.proofs.Batch.{runs_are_batches}
+use Rattle.law_turns.proofs.Refill.{first_is_last}
+use Rattle.law_turns.proofs.Quiet.{only_ticks, quiet_steps_are_tried, retired_steps_tick}
+use Rattle.law_turns.proofs.Turn.{boards_are_ready, flushed_is_set}
+use Rattle.law_turns.proofs.Taking.{batches_take, exits_take, is_counted, stands_of}
+use Rattle.def_guests.specs.Classes.{assisted}
 use Rattle.vm_guest.specs.Native.{native_cpu, reset_for, run_on, start_on}
 use Rattle.vm_guest.specs.Turns.{begun_seat, scene, level_on}
 use Rattle.vm_guest.proofs.Along.{wanted_along}

@@ -7,21 +7,21 @@ use Rattle.mb_model.specs.Keeping.{Apart}
 use Rattle.mb_walk.specs.Memory.{AreBytes}
 use Rattle.mb_walk.proofs.Parts.{length-part, bytes-part}
 use Rattle.mb_devices.specs.Devices.{DeviceState}
-use Rattle.mb_processor.specs.declared.StepEnd.{StepEnd}
-use Rattle.mb_processor.specs.Raise.{Stepped, by_its_end}
-use Rattle.mb_machine.specs.declared.reference.Reference.{Reference}
+use Rattle.def_processor.specs.declared.StepEnd.{StepEnd}
+use Rattle.def_processor.specs.Raise.{Stepped, by_its_end}
+use Rattle.def_machine.specs.declared.reference.Reference.{Reference}
 use Rattle.vm_shadow.specs.Mapped.{shadowed}
 use Rattle.vm_shadow.specs.declared.area.TheConstants.{AREA_BYTES}
 use Rattle.vm_shadow.specs.Area.{Maps}
-use Rattle.vm_machine.specs.Guests.{Guest}
-use Rattle.vm_machine.specs.Bus.{guest_bus}
-use Rattle.vm_machine.specs.Refills.{after_access}
-use Rattle.vm_machine.specs.Turns.{bus_side}
-use Rattle.vm_machine.specs.Seats.{Seat, end_of, guested_on, on_board, shadow_on, IsSeated, OnlyWithin}
-use Rattle.vm_held.specs.Truth.{Fine}
-use Rattle.vm_held.proofs.Puts.{accesses_keep_truth}
-use Rattle.vm_held.proofs.Truths.{runs_keep_truth}
-use Rattle.vm_machine.specs.declared.limits.TheConstants.{MONITOR_BYTES}
+use Rattle.def_guests.specs.Guests.{Guest}
+use Rattle.def_guests.specs.Bus.{guest_bus}
+use Rattle.def_guests.specs.Refills.{after_access}
+use Rattle.def_guests.specs.Turns.{bus_side}
+use Rattle.def_guests.specs.Seats.{Seat, end_of, guested_on, on_board, shadow_on, IsSeated, OnlyWithin}
+use Rattle.law_held.specs.Truth.{Fine}
+use Rattle.law_held.proofs.Puts.{accesses_keep_truth}
+use Rattle.law_held.proofs.Truths.{runs_keep_truth}
+use Rattle.def_guests.specs.declared.limits.TheConstants.{MONITOR_BYTES}
 use Rattle.vm_guest.specs.Memory.{OnlyBetween}
 
 -- other devices, and other steps, are nothing to it

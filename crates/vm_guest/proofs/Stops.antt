@@ -12,46 +12,46 @@ use Rattle.mb_model.specs.declared.outcome.RunState.TheVariants.{Running}
 use Rattle.mb_model.specs.Status.{space_of}
 use Rattle.mb_walk.specs.Memory.{AreBytes}
 use Rattle.mb_devices.specs.Devices.{DeviceState, level_of, ticked, IsNotDue, passed}
-use Rattle.mb_processor.specs.Raise.{Stepped}
-use Rattle.mb_processor.specs.Step.{interrupt_mask, rank, step_of}
-use Rattle.mb_machine.specs.Machine.{Entries, Machine, arrived, begun, takes_steps, asked, asked_of}
-use Rattle.mb_machine.specs.World.{World}
-use Rattle.mb_machine.proofs.Asked.{asked_masked}
+use Rattle.def_processor.specs.Raise.{Stepped}
+use Rattle.def_processor.specs.Step.{interrupt_mask, rank, step_of}
+use Rattle.def_machine.specs.Machine.{Entries, Machine, arrived, begun, takes_steps, asked, asked_of}
+use Rattle.def_machine.specs.World.{World}
+use Rattle.def_machine.proofs.Asked.{asked_masked}
 use Rattle.mb_board.specs.Beside.{but_ram}
 use Rattle.mb_board.specs.Fits.{FitsAlong}
 use Rattle.mb_board.specs.State.{BoardState, ran_to}
-use Rattle.vm_meaning.specs.declared.RunEnd.{RunEnd}
-use Rattle.vm_meaning.specs.declared.RunEnd.TheVariants.{Counted, Exit}
-use Rattle.vm_meaning.specs.Marks.{trail}
-use Rattle.vm_meaning.specs.Native.{NativeState, Ran}
+use Rattle.def_runs.specs.declared.RunEnd.{RunEnd}
+use Rattle.def_runs.specs.declared.RunEnd.TheVariants.{Counted, Exit}
+use Rattle.def_runs.specs.Marks.{trail}
+use Rattle.def_runs.specs.Native.{NativeState, Ran}
 use Rattle.vm_shadow.specs.Shadows.{Shadowed}
-use Rattle.vm_machine.specs.declared.class.Class.{Class}
-use Rattle.vm_machine.specs.declared.class.Class.TheVariants as class
-use Rattle.vm_machine.specs.Guests.{Guest}
-use Rattle.vm_machine.specs.Bus.{guest_bus}
-use Rattle.vm_machine.specs.Refills.{refilled_at, begun_again, going_on, refilled_by}
-use Rattle.vm_machine.specs.declared.limits.TheConstants.{MOST_REFILLS}
-use Rattle.vm_machine.specs.Classes.{class_at_first}
-use Rattle.vm_machine.specs.Exits.{is_refusal, class_of_vector, frame_access, handed_by, rest_by_frame}
-use Rattle.vm_machine.specs.Turns.{Guested, Tally, Turned, bus_side, guest_begun, guest_later, step_class_at_first, refills_of_step}
-use Rattle.vm_machine.specs.Turns.{tallied, with_refills, exits}
-use Rattle.vm_machine.specs.Turns.{marks_of, turn_of}
-use Rattle.vm_machine.specs.Seats.{Seat, end_of, machine_on, board_entry, shadow_on, guested_on, turned_on, IsSame, IsSeated, OnlyWithin, Takes}
-use Rattle.vm_machine.proofs.TurnLaws.{nothing_turned}
-use Rattle.vm_held.specs.Truth.{Fine}
-use Rattle.vm_mirror.specs.Related.{mapping}
-use Rattle.vm_step.specs.Lawful.{LeavesLawful}
-use Rattle.vm_step.specs.Reads.{read_by_frame}
-use Rattle.vm_step.specs.Batch.{stepped_by}
-use Rattle.vm_step.specs.Turn.{IsSetFor}
-use Rattle.vm_step.specs.Taking.{IsLeft, retired_seat, settled, site_of}
-use Rattle.vm_step.specs.Again.{Midway, unbegun, refilled_seat}
-use Rattle.vm_step.proofs.Refill.{again_comes_to_the_same}
-use Rattle.vm_step.proofs.Turn.{more_stays_set}
-use Rattle.vm_step.proofs.Taking.{some_read}
-use Rattle.vm_step.proofs.Again.{midway_again, midway_ahead, midway_begins, midway_ends, midway_level, midway_takes, midway_within}
+use Rattle.def_guests.specs.declared.class.Class.{Class}
+use Rattle.def_guests.specs.declared.class.Class.TheVariants as class
+use Rattle.def_guests.specs.Guests.{Guest}
+use Rattle.def_guests.specs.Bus.{guest_bus}
+use Rattle.def_guests.specs.Refills.{refilled_at, begun_again, going_on, refilled_by}
+use Rattle.def_guests.specs.declared.limits.TheConstants.{MOST_REFILLS}
+use Rattle.def_guests.specs.Classes.{class_at_first}
+use Rattle.def_guests.specs.Exits.{is_refusal, class_of_vector, frame_access, handed_by, rest_by_frame}
+use Rattle.def_guests.specs.Turns.{Guested, Tally, Turned, bus_side, guest_begun, guest_later, step_class_at_first, refills_of_step}
+use Rattle.def_guests.specs.Turns.{tallied, with_refills, exits}
+use Rattle.def_guests.specs.Turns.{marks_of, turn_of}
+use Rattle.def_guests.specs.Seats.{Seat, end_of, machine_on, board_entry, shadow_on, guested_on, turned_on, IsSame, IsSeated, OnlyWithin, Takes}
+use Rattle.def_guests.proofs.TurnLaws.{nothing_turned}
+use Rattle.law_held.specs.Truth.{Fine}
+use Rattle.law_mirror.specs.Related.{mapping}
+use Rattle.law_turns.specs.Lawful.{LeavesLawful}
+use Rattle.law_turns.specs.Reads.{read_by_frame}
+use Rattle.law_turns.specs.Batch.{stepped_by}
+use Rattle.law_turns.specs.Turn.{IsSetFor}
+use Rattle.law_turns.specs.Taking.{IsLeft, retired_seat, settled, site_of}
+use Rattle.law_turns.specs.Again.{Midway, unbegun, refilled_seat}
+use Rattle.law_turns.proofs.Refill.{again_comes_to_the_same}
+use Rattle.law_turns.proofs.Turn.{more_stays_set}
+use Rattle.law_turns.proofs.Taking.{some_read}
+use Rattle.law_turns.proofs.Again.{midway_again, midway_ahead, midway_begins, midway_ends, midway_level, midway_takes, midway_within}
 use Rattle.vm_guest.specs.Memory.{OnlyBetween}
-use Rattle.vm_machine.specs.Classes.{assisted}
+use Rattle.def_guests.specs.Classes.{assisted}
 use Rattle.vm_guest.specs.Native.{finished_by_frame, run_on, start_on, HasFrame, IsFrameOf}
 use Rattle.vm_guest.specs.Turns.{begun_seat, ended_at, scene, level_on}
 use Rattle.vm_guest.specs.Stops.{with_bus_of, uncounted, BeginsAgain, IsReady, IsStopped, IsUnderway}

@@ -6,10 +6,10 @@ use Rattle.std.proofs.lemmas.List.{drop_all}
 use Rattle.std.proofs.lemmas.Bool.{cases_lt}
 use Rattle.mb_script.specs.declared.entry.Entry.{Entry}
 use Rattle.mb_script.specs.Script.{IsScript}
-use Rattle.mb_machine.specs.Machine.{Entries, arrived, aborts}
+use Rattle.def_machine.specs.Machine.{Entries, arrived, aborts}
 use Rattle.mb_board.specs.Arrivals.{due_at, no_entry, IsNext}
 use Rattle.mb_board.proofs.Due.{aborts-past, arrived-past, none-outside}
-use Rattle.vm_meaning.specs.Batches.{NothingArrives}
+use Rattle.def_runs.specs.Batches.{NothingArrives}
 use Rattle.vm_guest.specs.Counting.{NoneDue}
 
 -- before the next entry's step none is due

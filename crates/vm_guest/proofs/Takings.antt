@@ -4,23 +4,23 @@ use Rattle.mb_port.specs.Routine.{run}
 use Rattle.mb_instr.specs.declared.registers.Plain.{Plain}
 use Rattle.mb_model.specs.declared.processor.Cpu.{Cpu}
 use Rattle.mb_devices.specs.Devices.{passed, IsNotDue}
-use Rattle.mb_processor.specs.Step.{interrupt_mask, step_of, rank}
-use Rattle.mb_machine.specs.Machine.{Entries, going, takes_steps}
-use Rattle.vm_meaning.specs.Batches.{NothingArrives}
-use Rattle.vm_meaning.specs.Marks.{trail}
-use Rattle.vm_meaning.specs.Native.{NativeState}
-use Rattle.vm_machine.specs.declared.class.Class.{Class}
-use Rattle.vm_machine.specs.declared.class.Class.TheVariants.{Entered, Idle, Traced}
-use Rattle.vm_machine.specs.Bus.{guest_bus}
-use Rattle.vm_machine.specs.Classes.{is_traced}
-use Rattle.vm_machine.specs.Turns.{Guested, Tally, Turned, bus_side, guest_stepped, refills_of_step, tallied, with_refills, exits, marks_of, by_class, advanced}
-use Rattle.vm_machine.specs.Turns.{turn_of}
-use Rattle.vm_machine.specs.Seats.{Seat, end_of, guested_on, turned_on, IsSame, IsSeated, Takes}
-use Rattle.vm_machine.proofs.TurnLaws.{going_turn, nothing_turned}
-use Rattle.vm_step.specs.Idle.{IsIdle, idle_seat}
-use Rattle.vm_step.proofs.Idle.{idle_steps_take}
+use Rattle.def_processor.specs.Step.{interrupt_mask, step_of, rank}
+use Rattle.def_machine.specs.Machine.{Entries, going, takes_steps}
+use Rattle.def_runs.specs.Batches.{NothingArrives}
+use Rattle.def_runs.specs.Marks.{trail}
+use Rattle.def_runs.specs.Native.{NativeState}
+use Rattle.def_guests.specs.declared.class.Class.{Class}
+use Rattle.def_guests.specs.declared.class.Class.TheVariants.{Entered, Idle, Traced}
+use Rattle.def_guests.specs.Bus.{guest_bus}
+use Rattle.def_guests.specs.Classes.{is_traced}
+use Rattle.def_guests.specs.Turns.{Guested, Tally, Turned, bus_side, guest_stepped, refills_of_step, tallied, with_refills, exits, marks_of, by_class, advanced}
+use Rattle.def_guests.specs.Turns.{turn_of}
+use Rattle.def_guests.specs.Seats.{Seat, end_of, guested_on, turned_on, IsSame, IsSeated, Takes}
+use Rattle.def_guests.proofs.TurnLaws.{going_turn, nothing_turned}
+use Rattle.law_turns.specs.Idle.{IsIdle, idle_seat}
+use Rattle.law_turns.proofs.Idle.{idle_steps_take}
 use Rattle.vm_guest.specs.Memory.{OnlyBetween}
-use Rattle.vm_machine.specs.Classes.{assisted}
+use Rattle.def_guests.specs.Classes.{assisted}
 use Rattle.vm_guest.specs.Turns.{begun_seat, ended_at, scene, level_on}
 use Rattle.vm_guest.proofs.Assisted.{inner, class_begun, idle_assisted}
 use Rattle.vm_guest.proofs.Seated.{only_within}

@@ -1,12 +1,12 @@
 -- A turn by the parts in which it was taken.
 use Rattle.std.proofs.Common.{◌≡◌, ◌∙◌, ◌⊎◌, ℕ, ◌+◌, ◌-◌, ◌≤◌, false, [], ap, sym, subst, inl, inr, arith}
 use Rattle.mb_model.specs.Keeping.{rule_k}
-use Rattle.mb_machine.specs.Machine.{run_of, takes_steps}
-use Rattle.vm_machine.specs.Turns.{Turned}
-use Rattle.vm_machine.specs.Seats.{machine_on, turned_on, IsSeated, Scene, Takes}
-use Rattle.vm_machine.proofs.ByRule.{turns_by_rule}
-use Rattle.vm_machine.proofs.Seated.{takes_add, nothing_is_taken}
-use Rattle.vm_machine.proofs.TurnLaws.{halted_turn, nothing_turned}
+use Rattle.def_machine.specs.Machine.{run_of, takes_steps}
+use Rattle.def_guests.specs.Turns.{Turned}
+use Rattle.def_guests.specs.Seats.{machine_on, turned_on, IsSeated, Scene, Takes}
+use Rattle.def_guests.proofs.ByRule.{turns_by_rule}
+use Rattle.def_guests.proofs.Seated.{takes_add, nothing_is_taken}
+use Rattle.def_guests.proofs.TurnLaws.{halted_turn, nothing_turned}
 
 -- what is halted or off has taken all further steps
 pub stays_taken : (m : ℕ) (t : Scene) → takes_steps t.guest.state ≡ false → IsSeated t.guest t.ram → Takes m t t

@@ -1,8 +1,8 @@
 -- Steps of a guest, and how they are counted.
 use Rattle.std.specs.Prelude.{ℕ, ◌+◌, ◌<◌, ◌≤◌, ◌⊎◌, length}
-use Rattle.mb_machine.specs.Machine.{Entries}
+use Rattle.def_machine.specs.Machine.{Entries}
 use Rattle.mb_board.specs.Arrivals.{due_at}
-use Rattle.vm_machine.specs.Turns.{Tally}
+use Rattle.def_guests.specs.Turns.{Tally}
 use Rattle.vm_guest.specs.declared.counts.Counts.{Counts}
 
 -- the count of each class

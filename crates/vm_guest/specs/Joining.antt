@@ -1,7 +1,7 @@
 -- A further guest on the board of others.
 use Rattle.std.specs.Prelude.{◌≡◌, ℕ, ◌+◌, ◌<◌, ◌==◌, if◌then◌else◌, List, []}
-use Rattle.vm_machine.specs.Seats.{Seat, end_of, turned_on, IsSeated}
-use Rattle.vm_machine.specs.Stages.{Stage, AllSeated, LieApart}
+use Rattle.def_guests.specs.Seats.{Seat, end_of, turned_on, IsSeated}
+use Rattle.def_guests.specs.Stages.{Stage, AllSeated, LieApart}
 use Rattle.vm_guest.specs.Memory.{OnlyBetween}
 
 -- the guests of a stage, and one behind them, in this memory

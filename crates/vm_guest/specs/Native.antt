@@ -8,19 +8,19 @@ use Rattle.mb_model.specs.declared.processor.Cpu.{Cpu}
 use Rattle.mb_model.specs.declared.outcome.RunState.TheVariants.{Running}
 use Rattle.mb_model.specs.Keeping.{rule_a, nothing_kept}
 use Rattle.mb_devices.specs.Devices.{DeviceState, level_of, restarted}
-use Rattle.mb_processor.specs.SystemEnds.{with_registers}
-use Rattle.mb_machine.specs.Machine.{Machine}
+use Rattle.def_processor.specs.SystemEnds.{with_registers}
+use Rattle.def_machine.specs.Machine.{Machine}
 use Rattle.mb_board.specs.State.{BoardState, no_registers}
-use Rattle.vm_meaning.specs.Native.{NativeState, Ran, about_to_run, user_run}
-use Rattle.vm_mirror.specs.Ready.{native_mmu}
-use Rattle.vm_machine.specs.Bus.{guest_bus}
-use Rattle.vm_machine.specs.Exits.{frame_access, handed_by, rest_by_frame}
-use Rattle.vm_machine.specs.Turns.{Guested, bus_side}
-use Rattle.vm_machine.specs.Seats.{Seat, guested_on}
-use Rattle.vm_machine.specs.declared.limits.TheConstants.{MONITOR_BYTES}
-use Rattle.vm_step.specs.Lawful.{LeavesLawful}
-use Rattle.vm_step.specs.Turn.{flushed, ready_for}
-use Rattle.vm_step.specs.Taking.{site_of}
+use Rattle.def_runs.specs.Native.{NativeState, Ran, about_to_run, user_run}
+use Rattle.law_mirror.specs.Ready.{native_mmu}
+use Rattle.def_guests.specs.Bus.{guest_bus}
+use Rattle.def_guests.specs.Exits.{frame_access, handed_by, rest_by_frame}
+use Rattle.def_guests.specs.Turns.{Guested, bus_side}
+use Rattle.def_guests.specs.Seats.{Seat, guested_on}
+use Rattle.def_guests.specs.declared.limits.TheConstants.{MONITOR_BYTES}
+use Rattle.law_turns.specs.Lawful.{LeavesLawful}
+use Rattle.law_turns.specs.Turn.{flushed, ready_for}
+use Rattle.law_turns.specs.Taking.{site_of}
 use Rattle.vm_guest.specs.Turns.{ended_at}
 use Rattle.mb_frames.specs.declared.places.TheConstants.{LONGEST}
 

@@ -5,10 +5,10 @@ use Rattle.mb_instr.specs.Registers.{plain_of}
 use Rattle.mb_model.specs.declared.processor.Cpu.{Cpu}
 use Rattle.mb_writes.specs.Writing.{ArePending}
 use Rattle.mb_writes.specs.Transfers.{count_of, mask_in}
-use Rattle.mb_processor.specs.SystemEnds.{with_registers}
-use Rattle.mb_processor.specs.Raise.{Stepped, cause_at}
-use Rattle.mb_processor.specs.Step.{step_of}
-use Rattle.vm_meaning.specs.Finishes.{finish_trap_of, finish_writes_of, finish_line_of, finish_movem_of}
+use Rattle.def_processor.specs.SystemEnds.{with_registers}
+use Rattle.def_processor.specs.Raise.{Stepped, cause_at}
+use Rattle.def_processor.specs.Step.{step_of}
+use Rattle.def_runs.specs.Finishes.{finish_trap_of, finish_writes_of, finish_line_of, finish_movem_of}
 use Rattle.vm_guest.specs.declared.rest.Rest.{Rest}
 use Rattle.vm_guest.specs.declared.rest.Rest.TheVariants.{Whole, Trap, Writes, Line, Movem}
 

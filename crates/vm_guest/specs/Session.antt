@@ -1,7 +1,7 @@
 -- A session: a board, the steps of a turn, and what its guests begin with.
 use Rattle.std.specs.Prelude.{◌≡◌, ℕ, ◌*◌, ◌%◌, ◌≤◌, List, length, All}
 use Rattle.mb_srec.specs.Image.{LiesBelow}
-use Rattle.mb_machine.specs.Machine.{Entries, Opening}
+use Rattle.def_machine.specs.Machine.{Entries, Opening}
 use Rattle.mb_board.specs.declared.bus.TheConstants.{MOST_BOARD_BYTES}
 use Rattle.mb_script.specs.declared.sizes.TheConstants.{LEAST_BOARD, LEAST_RAM, MOST_GUESTS, MOST_RAM, SIZE_UNIT}
 

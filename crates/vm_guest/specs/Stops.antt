@@ -4,24 +4,24 @@ use Rattle.mb_port.specs.Routine.{run}
 use Rattle.mb_model.specs.declared.outcome.RunState.TheVariants.{Running}
 use Rattle.mb_model.specs.Status.{space_of}
 use Rattle.mb_devices.specs.Devices.{level_of, IsNotDue}
-use Rattle.mb_processor.specs.Step.{step_of}
+use Rattle.def_processor.specs.Step.{step_of}
 use Rattle.mb_frames.specs.declared.frame.Frame.{Frame}
-use Rattle.mb_machine.specs.Machine.{takes_steps}
+use Rattle.def_machine.specs.Machine.{takes_steps}
 use Rattle.mb_board.specs.State.{BoardState}
-use Rattle.vm_meaning.specs.Native.{NativeState}
-use Rattle.vm_machine.specs.Guests.{Guest}
-use Rattle.vm_machine.specs.Bus.{guest_bus}
-use Rattle.vm_machine.specs.Refills.{refilled_at, begun_again}
-use Rattle.vm_machine.specs.declared.limits.TheConstants.{MOST_REFILLS}
-use Rattle.vm_machine.specs.Classes.{class_at_first}
-use Rattle.vm_machine.specs.Exits.{class_of_vector, frame_access, handed_by, rest_by_frame}
-use Rattle.vm_machine.specs.Turns.{tallied, bus_side}
-use Rattle.vm_machine.specs.Seats.{Seat, end_of, guested_on, IsSame, IsSeated, Takes}
-use Rattle.vm_held.specs.Truth.{Fine}
-use Rattle.vm_step.specs.Reads.{read_by_frame}
-use Rattle.vm_step.specs.Turn.{IsSetFor}
-use Rattle.vm_step.specs.Taking.{site_of}
-use Rattle.vm_step.specs.Again.{Midway}
+use Rattle.def_runs.specs.Native.{NativeState}
+use Rattle.def_guests.specs.Guests.{Guest}
+use Rattle.def_guests.specs.Bus.{guest_bus}
+use Rattle.def_guests.specs.Refills.{refilled_at, begun_again}
+use Rattle.def_guests.specs.declared.limits.TheConstants.{MOST_REFILLS}
+use Rattle.def_guests.specs.Classes.{class_at_first}
+use Rattle.def_guests.specs.Exits.{class_of_vector, frame_access, handed_by, rest_by_frame}
+use Rattle.def_guests.specs.Turns.{tallied, bus_side}
+use Rattle.def_guests.specs.Seats.{Seat, end_of, guested_on, IsSame, IsSeated, Takes}
+use Rattle.law_held.specs.Truth.{Fine}
+use Rattle.law_turns.specs.Reads.{read_by_frame}
+use Rattle.law_turns.specs.Turn.{IsSetFor}
+use Rattle.law_turns.specs.Taking.{site_of}
+use Rattle.law_turns.specs.Again.{Midway}
 use Rattle.vm_guest.specs.Memory.{OnlyBetween}
 use Rattle.vm_guest.specs.Native.{finished_by_frame, HasFrame, IsFrameOf}
 use Rattle.vm_guest.specs.Turns.{scene}

@@ -5,17 +5,17 @@ use Rattle.mb_model.specs.declared.outcome.RunState.{RunState}
 use Rattle.mb_model.specs.declared.outcome.RunState.TheVariants as state
 use Rattle.mb_model.specs.declared.processor.Cpu.{Cpu}
 use Rattle.mb_devices.specs.Devices.{DeviceState, ticked, restarted}
-use Rattle.mb_processor.specs.declared.StepEnd.{StepEnd}
-use Rattle.mb_processor.specs.declared.StepEnd.TheVariants as step
-use Rattle.mb_processor.specs.Raise.{Stepped}
-use Rattle.mb_machine.specs.Machine.{Opening, Entries, Machine, arrived, going, reset_with, run_of, start, asked}
-use Rattle.mb_machine.specs.Machine.{state_after}
+use Rattle.def_processor.specs.declared.StepEnd.{StepEnd}
+use Rattle.def_processor.specs.declared.StepEnd.TheVariants as step
+use Rattle.def_processor.specs.Raise.{Stepped}
+use Rattle.def_machine.specs.Machine.{Opening, Entries, Machine, arrived, going, reset_with, run_of, start, asked}
+use Rattle.def_machine.specs.Machine.{state_after}
 use Rattle.mb_board.specs.State.{BoardState, board_at_reset}
-use Rattle.vm_meaning.specs.Free.{rule_free, FreeRun, Within}
-use Rattle.vm_meaning.specs.Native.{NativeState}
-use Rattle.vm_machine.specs.Guests.{Guest}
-use Rattle.vm_machine.specs.Turns.{Guested}
-use Rattle.vm_machine.specs.Seats.{Seat, Scene}
+use Rattle.def_runs.specs.Free.{rule_free, FreeRun, Within}
+use Rattle.def_runs.specs.Native.{NativeState}
+use Rattle.def_guests.specs.Guests.{Guest}
+use Rattle.def_guests.specs.Turns.{Guested}
+use Rattle.def_guests.specs.Seats.{Seat, Scene}
 use Rattle.vm_guest.specs.declared.turn_end.TurnEnd.{TurnEnd}
 use Rattle.vm_guest.specs.declared.turn_end.TurnEnd.TheVariants.{Counted, Halted, Off}
 

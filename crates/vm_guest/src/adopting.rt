@@ -4,11 +4,11 @@ ghost use Rattle.std.specs.Prelude.{◌≡◌, ◌+◌, ◌^◌, ◌<◌, ◌≤
 ghost use Rattle.mb_model.specs.Keeping.{rule_k, Apart, NamesPages};
 ghost use Rattle.mb_srec.specs.Image.{LiesBelow};
 ghost use Rattle.mb_walk.specs.Memory.{overwritten, with_contents};
-ghost use Rattle.mb_machine.specs.Machine.{with_ram};
+ghost use Rattle.def_machine.specs.Machine.{with_ram};
 ghost use Rattle.mb_board.specs.Beside.{but_ram};
 ghost use Rattle.mb_board.specs.State.{machine_in, with_machine};
 ghost use Rattle.mb_saved.specs.Saved.{IsLawful};
-ghost use Rattle.vm_machine.specs.Seats.{turned_on, IsSame, IsSeated};
+ghost use Rattle.def_guests.specs.Seats.{turned_on, IsSame, IsSeated};
 ghost use Rattle.vm_saved.specs.Saved.{content_of, contents_of, machine_of};
 ghost use Rattle.vm_saved.specs.Begins.{beginning};
 ghost use Rattle.vm_guest.specs.Memory.{chunk_from, contents_from, OnlyBetween};

@@ -1,13 +1,13 @@
 //! The class of a step, as the monitor finds it.
 
 ghost use Rattle.std.specs.Prelude.{◌≡◌, ◌<◌};
-ghost use Rattle.vm_machine.specs.Exits.{class_of_vector, is_refusal};
-ghost use Rattle.vm_machine.specs.Classes.{assisted};
+ghost use Rattle.def_guests.specs.Exits.{class_of_vector, is_refusal};
+ghost use Rattle.def_guests.specs.Classes.{assisted};
 
+use def_guests::Class;
 use mb_instr::vectors::{ACCESS_ERROR, ILLEGAL, LINE_A, LINE_F, ODD_COUNTER, PRIVILEGED};
 use mb_model::Cpu;
 use mb_step::rank;
-use vm_machine::Class;
 
 /// The class of a step that has begun, with an interrupt of this level asked for, where the board has no part in it: an
 /// interrupt is entered, STOP holds the processor, or a trace bit is set.

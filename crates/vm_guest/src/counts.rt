@@ -1,10 +1,10 @@
 //! How many steps of each class a guest has taken.
 
 ghost use Rattle.std.specs.Prelude.{◌≡◌, ◌+◌, ◌<◌, ◌^◌};
-ghost use Rattle.vm_machine.specs.Turns.{tallied, no_steps, steps_in};
+ghost use Rattle.def_guests.specs.Turns.{tallied, no_steps, steps_in};
 ghost use Rattle.vm_guest.specs.Counting.{tally_in};
 
-use vm_machine::Class;
+use def_guests::Class;
 
 /// How many steps of each class there were. They add up to the steps that the guest has taken.
 #[derive(Clone, Copy, Debug, PartialEq, Eq)]

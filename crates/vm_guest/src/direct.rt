@@ -4,17 +4,17 @@ ghost use Rattle.std.specs.Prelude.{◌≡◌, ◌+◌, ◌*◌, ◌<◌, ◌≤
 ghost use Rattle.mb_instr.specs.Registers.{plain_of};
 ghost use Rattle.mb_walk.specs.Memory.{AreBytes};
 ghost use Rattle.mb_devices.specs.Devices.{passed, IsNotDue};
-ghost use Rattle.mb_machine.specs.Machine.{takes_steps};
+ghost use Rattle.def_machine.specs.Machine.{takes_steps};
 ghost use Rattle.mb_board.specs.Arrivals.{IsNext};
 ghost use Rattle.mb_board.specs.Beside.{but_ram};
 ghost use Rattle.mb_board.specs.Fits.{FitsAlong};
 ghost use Rattle.mb_board.specs.State.{ran_to};
-ghost use Rattle.vm_machine.specs.Exits.{class_of_vector as class_of, frame_access};
-ghost use Rattle.vm_machine.specs.Turns.{tallied, steps_in};
-ghost use Rattle.vm_machine.specs.Seats.{end_of, guested_on, IsSame, IsSeated, Takes};
-ghost use Rattle.vm_step.specs.Idle.{idle_seat};
-ghost use Rattle.vm_step.specs.Lawful.{LeavesLawful};
-ghost use Rattle.vm_step.specs.Taking.{retired_seat};
+ghost use Rattle.def_guests.specs.Exits.{class_of_vector as class_of, frame_access};
+ghost use Rattle.def_guests.specs.Turns.{tallied, steps_in};
+ghost use Rattle.def_guests.specs.Seats.{end_of, guested_on, IsSame, IsSeated, Takes};
+ghost use Rattle.law_turns.specs.Idle.{idle_seat};
+ghost use Rattle.law_turns.specs.Lawful.{LeavesLawful};
+ghost use Rattle.law_turns.specs.Taking.{retired_seat};
 ghost use Rattle.vm_guest.specs.Memory.{OnlyBetween};
 ghost use Rattle.vm_guest.specs.Counting.{NoneDue};
 ghost use Rattle.vm_guest.specs.Native.{guest_run, guest_start, finished_by_frame, run_on, start_on};
@@ -27,14 +27,14 @@ use crate::guest::Guest;
 use crate::readying::{make_ready, set_registers};
 use crate::rest::Rest;
 use crate::stepping::state_by;
+use def_guests::{Class, MOST_REFILLS};
+use def_processor::StepEnd;
 use mb_board::{Board, Native, RunEnd};
 use mb_devices::Devices;
 use mb_frames::{Frame, LONGEST, from_bytes};
 use mb_instr::{Plain, Regs};
-use mb_processor::StepEnd;
 use mb_script::Script;
 use mb_walk::Ram;
-use vm_machine::{Class, MOST_REFILLS};
 
 /// The frame that the board stacked when it left a step.
 fn frame_on(board: &Board) -> Frame

@@ -3,20 +3,20 @@
 ghost use Rattle.std.specs.Prelude.{◌≡◌, ◌+◌, ◌%◌, ◌≤◌, [], length, IfOk, IfErr, All};
 ghost use Rattle.mb_srec.specs.Image.{contents_of, LiesBelow};
 ghost use Rattle.mb_model.specs.Seen.{seen_of};
-ghost use Rattle.mb_machine.specs.Machine.{diskless, seen_machine};
+ghost use Rattle.def_machine.specs.Machine.{diskless, seen_machine};
 ghost use Rattle.mb_board.specs.Beside.{but_ram};
 ghost use Rattle.vm_shadow.specs.declared.area.TheConstants.{AREA_BYTES};
-ghost use Rattle.vm_machine.specs.Turns.{prepared};
-ghost use Rattle.vm_machine.specs.Seats.{machine_on, turned_on, IsSeated};
-ghost use Rattle.vm_machine.specs.declared.limits.TheConstants.{MONITOR_BYTES};
+ghost use Rattle.def_guests.specs.Turns.{prepared};
+ghost use Rattle.def_guests.specs.Seats.{machine_on, turned_on, IsSeated};
+ghost use Rattle.def_guests.specs.declared.limits.TheConstants.{MONITOR_BYTES};
 ghost use Rattle.vm_guest.specs.Memory.{OnlyBetween};
 ghost use Rattle.vm_guest.specs.Counting.{tally_in};
 
 use crate::counts::Counts;
 use crate::loading::{clear, load};
+use def_machine::MMU_AT_RESET;
 use mb_board::{Board, place_behind};
 use mb_devices::Devices;
-use mb_machine::MMU_AT_RESET;
 use mb_model::{Cpu, Outcome, RunState};
 use mb_outside::Memory;
 use mb_port::Mmu;
@@ -53,8 +53,8 @@ pub struct Guest {
 
 impl Model for Guest {
     ghost use Rattle.std.specs.Prelude.{◌≡◌, ◌≤◌, []};
-    ghost use Rattle.vm_machine.specs.Turns.{steps_in};
-    ghost use Rattle.vm_machine.specs.Seats.{Seat};
+    ghost use Rattle.def_guests.specs.Turns.{steps_in};
+    ghost use Rattle.def_guests.specs.Seats.{Seat};
     ghost use Rattle.mb_board.specs.Arrivals.{IsNext};
     ghost use Rattle.vm_guest.specs.Counting.{tally_in};
 

@@ -1,7 +1,7 @@
 //! One guest on a board.
 //!
 //! [`Guest`] holds a guest's processor, its registers of translation, its devices, what it keeps, and which tables of
-//! its shadow stand; the board holds its RAM and the tables behind it. Its model is the guest of `vm_machine` on a
+//! its shadow stand; the board holds its RAM and the tables behind it. Its model is the guest of `def_guests` on a
 //! board, and a turn takes the steps that are defined there. The board's processor carries out every step that is
 //! retired; what it leaves, and what it has no part in, the monitor carries out, over the guest's bus of `vm_port`.
 #![tactic(auto)]

@@ -3,7 +3,7 @@
 ghost use Rattle.std.specs.Prelude.{◌≡◌, ◌+◌, ◌%◌, ◌^◌, ◌<◌, ◌≤◌, length, replicate, All};
 ghost use Rattle.mb_srec.specs.Image.{content_of, all_contents, LiesBelow};
 ghost use Rattle.mb_walk.specs.Memory.{overwritten, with_contents};
-ghost use Rattle.mb_machine.specs.Machine.{with_ram};
+ghost use Rattle.def_machine.specs.Machine.{with_ram};
 ghost use Rattle.mb_board.specs.State.{machine_in, with_machine};
 ghost use Rattle.vm_guest.specs.Memory.{chunk_from, contents_from};
 

@@ -2,16 +2,16 @@
 
 ghost use Rattle.std.specs.Prelude.{◌≡◌, ◌≤◌, ◌%◌, true, length};
 ghost use Rattle.mb_model.specs.declared.outcome.RunState.TheVariants.{Running};
-ghost use Rattle.mb_processor.specs.SystemEnds.{with_registers};
-ghost use Rattle.mb_machine.specs.Machine.{takes_steps};
+ghost use Rattle.def_processor.specs.SystemEnds.{with_registers};
+ghost use Rattle.def_machine.specs.Machine.{takes_steps};
 ghost use Rattle.mb_board.specs.State.{board_at_reset};
 ghost use Rattle.vm_guest.specs.Native.{native_cpu, ready};
 
+use def_guests::MONITOR_BYTES;
 use mb_board::Board;
 use mb_instr::{Plain, Regs};
 use mb_model::Cpu;
 use mb_port::{MmuReg, Port};
-use vm_machine::MONITOR_BYTES;
 
 /// The processor with which the board carries out a guest: user mode with all interrupts masked and no trace, vectors
 /// at 0, and these registers.

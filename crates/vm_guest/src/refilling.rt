@@ -2,18 +2,18 @@
 
 ghost use Rattle.std.specs.Prelude.{◌≡◌, ◌<◌, Some, None, false, if◌then◌else◌};
 ghost use Rattle.mb_model.specs.Status.{space_of};
-ghost use Rattle.vm_machine.specs.Refills.{refilled_at};
-ghost use Rattle.vm_machine.specs.Seats.{end_of, guested_on, IsSeated};
-ghost use Rattle.vm_machine.specs.Turns.{bus_side};
-ghost use Rattle.vm_held.specs.Truth.{Fine};
-ghost use Rattle.vm_step.specs.Reads.{is_read, read_by_frame};
+ghost use Rattle.def_guests.specs.Refills.{refilled_at};
+ghost use Rattle.def_guests.specs.Seats.{end_of, guested_on, IsSeated};
+ghost use Rattle.def_guests.specs.Turns.{bus_side};
+ghost use Rattle.law_held.specs.Truth.{Fine};
+ghost use Rattle.law_turns.specs.Reads.{is_read, read_by_frame};
 ghost use Rattle.vm_guest.specs.Memory.{OnlyBetween};
 ghost use Rattle.vm_guest.specs.Stops.{with_bus_of};
 
 use crate::guest::Guest;
+use def_machine::Reference;
 use mb_entry::continues;
 use mb_frames::{Access, Frame};
-use mb_machine::Reference;
 use mb_port::Space;
 use mb_walk::Ram;
 use vm_port::GuestPort;

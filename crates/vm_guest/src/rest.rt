@@ -2,23 +2,23 @@
 
 ghost use Rattle.std.specs.Prelude.{◌≡◌, ◌<◌, ℕ};
 ghost use Rattle.mb_port.specs.Routine.{run};
-ghost use Rattle.mb_processor.specs.Raise.{by_its_end};
+ghost use Rattle.def_processor.specs.Raise.{by_its_end};
 ghost use Rattle.mb_model.specs.declared.processor.Cpu.{Cpu as CpuValue};
-ghost use Rattle.vm_machine.specs.Exits.{handed_by};
-ghost use Rattle.vm_machine.specs.Guests.{Guest};
-ghost use Rattle.vm_machine.specs.Rests.{rest_by, SameOver};
-ghost use Rattle.vm_machine.specs.Exits.{frame_access, rest_by_frame};
-ghost use Rattle.vm_step.specs.Lawful.{IsLawfulLeftOver, LeavesLawful};
+ghost use Rattle.def_guests.specs.Exits.{handed_by};
+ghost use Rattle.def_guests.specs.Guests.{Guest};
+ghost use Rattle.def_guests.specs.Rests.{rest_by, SameOver};
+ghost use Rattle.def_guests.specs.Exits.{frame_access, rest_by_frame};
+ghost use Rattle.law_turns.specs.Lawful.{IsLawfulLeftOver, LeavesLawful};
 ghost use Rattle.vm_guest.specs.Rests.{rest_in, IsLawfulRest};
 
 use crate::classes::is_refusal;
 use arrayvec::ArrayVec;
+use def_processor::StepEnd;
 use mb_entry::Cause;
 use mb_frames::{Frame, Pend};
 use mb_instr::{Plain, Regs};
 use mb_model::Cpu;
 use mb_port::Port;
-use mb_processor::StepEnd;
 use mb_step::{Decoder, step_to_finish};
 use vm_inject::{LeftOver, finish_line, finish_movem, finish_trap, finish_writes, left_in};
 

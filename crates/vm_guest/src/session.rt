@@ -95,7 +95,7 @@ impl SessionDisk {
 impl SessionGuest {
     ghost use Rattle.std.specs.Prelude.{◌≡◌, option_map, Some};
     ghost use Rattle.mb_srec.specs.Image.{contents_of};
-    ghost use Rattle.mb_machine.specs.Machine.{diskless};
+    ghost use Rattle.def_machine.specs.Machine.{diskless};
 
     /// Without a disk. `ram` is in bytes.
     pub fn new(image: Image, script: Script, ram: u32, steps: u32) -> SessionGuest

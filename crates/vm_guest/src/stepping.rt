@@ -2,24 +2,24 @@
 
 ghost use Rattle.std.specs.Prelude.{◌≡◌, ◌+◌, ◌^◌, ◌<◌, ◌≤◌};
 ghost use Rattle.mb_port.specs.Routine.{run};
-ghost use Rattle.mb_processor.specs.Raise.{by_its_end};
+ghost use Rattle.def_processor.specs.Raise.{by_its_end};
 ghost use Rattle.mb_board.specs.Beside.{but_ram};
-ghost use Rattle.vm_machine.specs.Bus.{guest_bus};
-ghost use Rattle.vm_machine.specs.Turns.{tallied, steps_in, bus_side};
-ghost use Rattle.vm_machine.specs.Seats.{end_of, guested_on, IsSame, IsSeated};
+ghost use Rattle.def_guests.specs.Bus.{guest_bus};
+ghost use Rattle.def_guests.specs.Turns.{tallied, steps_in, bus_side};
+ghost use Rattle.def_guests.specs.Seats.{end_of, guested_on, IsSame, IsSeated};
 ghost use Rattle.vm_guest.specs.Memory.{OnlyBetween};
 ghost use Rattle.vm_guest.specs.Rests.{rest_in, IsLawfulRest};
-ghost use Rattle.vm_step.specs.Taking.{settled};
+ghost use Rattle.law_turns.specs.Taking.{settled};
 ghost use Rattle.vm_guest.specs.Turns.{begun_seat, ended_at, level_on, processed, state_by};
 
 use crate::guest::Guest;
 use crate::rest::Rest;
+use def_guests::Class;
+use def_processor::StepEnd;
 use mb_board::{Board, receive};
 use mb_devices::Devices;
 use mb_model::{Cpu, NON_MASKABLE, RunState};
-use mb_processor::StepEnd;
 use mb_walk::Ram;
-use vm_machine::Class;
 use vm_port::GuestPort;
 
 /// The state of a guest after a step that ended so, with the processor and the devices that it left.

@@ -2,9 +2,9 @@
 
 ghost use Rattle.std.specs.Prelude.{◌≡◌, ◌+◌, ◌^◌, ◌<◌, ◌≤◌, true, false};
 ghost use Rattle.mb_model.specs.Keeping.{rule_k};
-ghost use Rattle.mb_machine.specs.Machine.{run_of, takes_steps};
-ghost use Rattle.vm_meaning.specs.Free.{IsFreeRun};
-ghost use Rattle.vm_machine.specs.Seats.{machine_on, IsSeated, Takes};
+ghost use Rattle.def_machine.specs.Machine.{run_of, takes_steps};
+ghost use Rattle.def_runs.specs.Free.{IsFreeRun};
+ghost use Rattle.def_guests.specs.Seats.{machine_on, IsSeated, Takes};
 ghost use Rattle.vm_guest.specs.Turns.{end_by, scene, GoesOnFreely, IsReset, RisesByAtMost};
 
 use crate::guest::Guest;

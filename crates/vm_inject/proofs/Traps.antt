@@ -6,14 +6,14 @@ use Rattle.mb_instr.specs.declared.registers.Plain.{Plain}
 use Rattle.mb_instr.specs.declared.registers.Regs.{Regs}
 use Rattle.mb_instr.specs.Registers.{with_plain}
 use Rattle.mb_model.specs.declared.processor.Cpu.{Cpu}
-use Rattle.mb_processor.specs.declared.Finish.TheVariants as finish
-use Rattle.mb_processor.specs.declared.entering.Cause.{Cause}
-use Rattle.mb_processor.specs.declared.entering.Entered.TheVariants as entered
-use Rattle.mb_processor.specs.Entry.{Entrance, awake, enter_of}
-use Rattle.mb_processor.specs.SystemEnds.{with_registers}
-use Rattle.mb_processor.specs.Raise.{Stepped, unchecked_of, raised}
+use Rattle.def_processor.specs.declared.Finish.TheVariants as finish
+use Rattle.def_processor.specs.declared.entering.Cause.{Cause}
+use Rattle.def_processor.specs.declared.entering.Entered.TheVariants as entered
+use Rattle.def_processor.specs.Entry.{Entrance, awake, enter_of}
+use Rattle.def_processor.specs.SystemEnds.{with_registers}
+use Rattle.def_processor.specs.Raise.{Stepped, unchecked_of, raised}
 use Rattle.mb_step.proofs.Entries.{unchecked_awake}
-use Rattle.vm_meaning.specs.Finishes.{finish_trap_of}
+use Rattle.def_runs.specs.Finishes.{finish_trap_of}
 
 -- the processor with other registers
 abbrev holding : Regs → Cpu → Cpu

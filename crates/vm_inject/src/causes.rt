@@ -2,7 +2,7 @@
 
 ghost use Rattle.std.specs.Prelude.{◌≡◌, false};
 ghost use Rattle.mb_instr.specs.Registers.{is_supervisor};
-ghost use Rattle.vm_meaning.specs.Frames.{address_by, cause_in};
+ghost use Rattle.def_runs.specs.Frames.{address_by, cause_in};
 
 use mb_entry::Cause;
 use mb_frames::Frame;

@@ -7,8 +7,8 @@ ghost use Rattle.std.specs.Prelude.{◌≡◌, ◌≢◌, ◌<◌, ◌≤◌, �
 ghost use Rattle.mb_port.specs.Routine.{run};
 ghost use Rattle.mb_writes.specs.Writing.{ArePending};
 ghost use Rattle.mb_writes.specs.Transfers.{count_of, mask_in};
-ghost use Rattle.mb_processor.specs.Raise.{by_its_end};
-ghost use Rattle.vm_meaning.specs.Finishes.{finish_trap_of, finish_writes_of, finish_line_of, finish_movem_of};
+ghost use Rattle.def_processor.specs.Raise.{by_its_end};
+ghost use Rattle.def_runs.specs.Finishes.{finish_trap_of, finish_writes_of, finish_line_of, finish_movem_of};
 
 use mb_entry::{Cause, Entered, enter, line_fields, movem_fields, write_fields};
 use mb_frames::Pend;

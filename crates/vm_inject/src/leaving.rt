@@ -1,15 +1,15 @@
 //! What an access error left to do, from its frame.
 
 ghost use Rattle.std.specs.Prelude.{◌≡◌, ◌≢◌, ◌≤◌, true};
-ghost use Rattle.mb_processor.specs.Return.{continues};
+ghost use Rattle.def_processor.specs.Return.{continues};
 ghost use Rattle.mb_writes.specs.Transfers.{count_of, mask_in};
-ghost use Rattle.vm_meaning.specs.Frames.{is_valid, length_in, first_pend, pending_in, left_in};
+ghost use Rattle.def_runs.specs.Frames.{is_valid, length_in, first_pend, pending_in, left_in};
 
 use arrayvec::ArrayVec;
+use def_runs::LeftOver;
 use mb_entry::continues;
 use mb_frames::{Access, Pend};
 use mb_writes::part;
-use vm_meaning::LeftOver;
 
 /// The bytes of a line.
 const LINE: u8 = 16;

@@ -7,11 +7,11 @@ use Rattle.mb_port.specs.declared.types.Flush.{Flush}
 use Rattle.mb_model.specs.declared.kept.Kept.{Kept}
 use Rattle.mb_model.specs.Keeping.{covers}
 use Rattle.mb_model.specs.Pages.{page_of}
-use Rattle.mb_machine.specs.World.{World}
-use Rattle.mb_machine.specs.declared.reference.Reference.{Reference}
+use Rattle.def_machine.specs.World.{World}
+use Rattle.def_machine.specs.declared.reference.Reference.{Reference}
 use Rattle.vm_shadow.specs.Shadows.{Shadowed, with_page_put, dropped}
-use Rattle.vm_machine.specs.Guests.{allows}
-use Rattle.vm_machine.specs.Bus.{dropped_all, is_in_ram, is_split, is_writable, put_entry_of}
+use Rattle.def_guests.specs.Guests.{allows}
+use Rattle.def_guests.specs.Bus.{dropped_all, is_in_ram, is_split, is_writable, put_entry_of}
 
 entry_first : (ks : List Kept) (place : ℕ) (k : Kept) → slice_get ks place ≡ Some k → drop place ks ≡ k ∷ drop (place + 1) ks
 entry_first ks place k h =

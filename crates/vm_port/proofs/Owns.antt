@@ -7,9 +7,9 @@ use Rattle.vm_shadow.specs.declared.table.Table.{Table}
 use Rattle.vm_shadow.specs.declared.table.Table.TheVariants.{Pointers, Pages}
 use Rattle.vm_shadow.specs.Slots.{is_full_for, tables_for}
 use Rattle.vm_shadow.specs.Shadows.{Shadowed, EntryMap, nothing, is_at, room_for, with_page_put, dropped, has_entry, is_needed}
-use Rattle.vm_machine.specs.Seats.{board_entry, on_board, own, own_entry}
-use Rattle.vm_machine.specs.Guests.{allows, lets}
-use Rattle.mb_machine.specs.declared.reference.Reference.{Reference}
+use Rattle.def_guests.specs.Seats.{board_entry, on_board, own, own_entry}
+use Rattle.def_guests.specs.Guests.{allows, lets}
+use Rattle.def_machine.specs.declared.reference.Reference.{Reference}
 use Rattle.mb_model.specs.Pages.{page_of}
 use Rattle.vm_port.specs.Own.{IsPlaced}
 

@@ -17,18 +17,18 @@ use Rattle.mb_walk.specs.declared.found.Found.TheVariants.{Entry, Invalid, BusEr
 use Rattle.mb_walk.specs.Memory.{AreBytes}
 use Rattle.mb_walk.specs.Search.{Searched, search_of, OnEntry}
 use Rattle.mb_walk.proofs.Named.{search_names}
-use Rattle.mb_machine.specs.declared.reference.Reference.{Reference}
-use Rattle.mb_machine.specs.declared.reference.Settled.{Settled}
-use Rattle.mb_machine.specs.declared.reference.Settled.TheVariants.{To, Refused, Unsettled}
-use Rattle.mb_machine.specs.World.{World}
+use Rattle.def_machine.specs.declared.reference.Reference.{Reference}
+use Rattle.def_machine.specs.declared.reference.Settled.{Settled}
+use Rattle.def_machine.specs.declared.reference.Settled.TheVariants.{To, Refused, Unsettled}
+use Rattle.def_machine.specs.World.{World}
 use Rattle.mb_port.specs.declared.types.Mmu.{Mmu}
-use Rattle.mb_machine.specs.Access.{root_of, settled, marks, known, through, by_found, by_settled, translated}
+use Rattle.def_machine.specs.Access.{root_of, settled, marks, known, through, by_found, by_settled, translated}
 use Rattle.vm_shadow.specs.Slots.{is_full_for}
-use Rattle.vm_machine.specs.Guests.{Guest}
-use Rattle.vm_machine.specs.Bus.{gone_found, gone_settled, gone, is_split, is_in_ram}
-use Rattle.vm_machine.specs.Refills.{shows_nothing, can_refill}
-use Rattle.vm_held.proofs.Stages.{entry_used, translated_by}
-use Rattle.vm_held.proofs.Accesses.{entry_at_page, settled_at, search_needed}
+use Rattle.def_guests.specs.Guests.{Guest}
+use Rattle.def_guests.specs.Bus.{gone_found, gone_settled, gone, is_split, is_in_ram}
+use Rattle.def_guests.specs.Refills.{shows_nothing, can_refill}
+use Rattle.law_held.proofs.Stages.{entry_used, translated_by}
+use Rattle.law_held.proofs.Accesses.{entry_at_page, settled_at, search_needed}
 use Rattle.mb_walk.specs.Quiet.{found_used}
 use Rattle.vm_port.specs.Quiet.{seen_found, seen_by, seen, refills_seen}
 use Rattle.mb_walk.proofs.QuietSearches.{met_is_used, used_is_quiet}

@@ -7,8 +7,8 @@ use Rattle.mb_devices.specs.Devices.{DeviceState}
 use Rattle.vm_shadow.specs.Slots.{Slots}
 use Rattle.vm_shadow.specs.Shadows.{Shadowed}
 use Rattle.vm_shadow.specs.Mapped.{shadowed}
-use Rattle.vm_machine.specs.Seats.{own, on_board}
-use Rattle.vm_machine.specs.Guests.{Guest}
+use Rattle.def_guests.specs.Seats.{own, on_board}
+use Rattle.def_guests.specs.Guests.{Guest}
 
 -- each entry of a board's tables leads to the guest's part
 abbrev pub IsPlaced : ℕ → Shadowed → Type 0

@@ -2,12 +2,12 @@
 use Rattle.std.specs.Prelude.{ℕ, ◌+◌, List, length, take, drop}
 use Rattle.mb_walk.specs.declared.ram.Ram.{Ghosts}
 use Rattle.mb_walk.specs.Memory.{part}
-use Rattle.mb_machine.specs.World.{World}
+use Rattle.def_machine.specs.World.{World}
 use Rattle.vm_shadow.specs.Shadows.{Shadowed}
 use Rattle.vm_shadow.specs.Mapped.{shadowed}
 use Rattle.vm_shadow.specs.declared.area.TheConstants.{AREA_BYTES}
-use Rattle.vm_machine.specs.Seats.{own}
-use Rattle.vm_machine.specs.Guests.{Guest}
+use Rattle.def_guests.specs.Seats.{own}
+use Rattle.def_guests.specs.Guests.{Guest}
 use Rattle.vm_port.specs.Own.{guest_in}
 use Rattle.vm_port.specs.Around.{Beyond, Beside}
 use Rattle.vm_port.specs.declared.port.GuestPort.{GuestPort}

@@ -4,14 +4,14 @@ use Rattle.mb_model.specs.declared.kept.Kept.{Kept}
 use Rattle.mb_model.specs.Keeping.{rule_k, list_of}
 use Rattle.mb_model.specs.Pages.{page_of, has_big_pages}
 use Rattle.mb_walk.specs.Quiet.{found_used}
-use Rattle.mb_machine.specs.declared.reference.Reference.{Reference}
-use Rattle.mb_machine.specs.declared.reference.Settled.{Settled}
-use Rattle.mb_machine.specs.declared.reference.Settled.TheVariants.{To, Refused, Unsettled}
-use Rattle.mb_machine.specs.World.{World}
-use Rattle.mb_machine.specs.Access.{root_of, settled, through}
+use Rattle.def_machine.specs.declared.reference.Reference.{Reference}
+use Rattle.def_machine.specs.declared.reference.Settled.{Settled}
+use Rattle.def_machine.specs.declared.reference.Settled.TheVariants.{To, Refused, Unsettled}
+use Rattle.def_machine.specs.World.{World}
+use Rattle.def_machine.specs.Access.{root_of, settled, through}
 use Rattle.vm_shadow.specs.Slots.{is_full_for}
-use Rattle.vm_machine.specs.Guests.{Guest}
-use Rattle.vm_machine.specs.Bus.{is_split, is_in_ram}
+use Rattle.def_guests.specs.Guests.{Guest}
+use Rattle.def_guests.specs.Bus.{is_split, is_in_ram}
 
 abbrev pub seen_found : Reference → Option Kept → Option ℕ
 seen_found r None = None

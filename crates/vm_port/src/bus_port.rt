@@ -1,11 +1,11 @@
 //! The calls of a guest's bus.
 
-ghost use Rattle.vm_machine.specs.Guests.{Guest};
-ghost use Rattle.vm_machine.specs.Bus.{guest_bus};
+ghost use Rattle.def_guests.specs.Guests.{Guest};
+ghost use Rattle.def_guests.specs.Bus.{guest_bus};
 ghost use Rattle.vm_port.specs.Places.{HasPiece};
 
 use crate::port::GuestPort;
-use mb_machine::Reference;
+use def_machine::Reference;
 use mb_port::{Fault, Flush, Mmu, MmuReg, Piece, Place, Port, Space};
 use mb_walk::Ram;
 

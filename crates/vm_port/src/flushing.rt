@@ -5,13 +5,13 @@ ghost use Rattle.std.specs.Prelude.{◌≡◌, ◌<◌, ◌^◌, false, if◌the
 ghost use Rattle.vm_shadow.specs.Shadows.{nothing, dropped};
 ghost use Rattle.mb_model.specs.Keeping.{rule_k, flushed, after_ptest as dropped_halves, after_movec, covers, NamesPages};
 ghost use Rattle.mb_model.specs.Pages.{page_of as page_number, has_big_pages as has_big};
-ghost use Rattle.mb_machine.specs.Access.{matched};
-ghost use Rattle.mb_machine.specs.Bus.{tested, after_set_mmu};
-ghost use Rattle.vm_machine.specs.Bus.{dropped_all, shadow_after_flush, shadow_after_drop, shadow_after_test};
+ghost use Rattle.def_machine.specs.Access.{matched};
+ghost use Rattle.def_machine.specs.Bus.{tested, after_set_mmu};
+ghost use Rattle.def_guests.specs.Bus.{dropped_all, shadow_after_flush, shadow_after_drop, shadow_after_test};
 
 use crate::port::GuestPort;
+use def_machine::{MMUSR_MATCHED, root};
 use mb_instr::ControlRegister;
-use mb_machine::{MMUSR_MATCHED, root};
 use mb_model::{Kept, has_big_pages, other_half, page_of};
 use mb_port::{Flush, MmuReg, Space};
 use mb_walk::{Ram, search, transparent};

@@ -1,7 +1,7 @@
 //! A guest's bus in code: what each access of a guest does, over the guest's part of a board's memory, its devices, its
 //! registers of translation and what it keeps, and what the access makes of the guest's shadow.
 //!
-//! [`GuestPort`] is the guest's bus of `vm_machine`, call by call. It stands over any memory, and knows no board.
+//! [`GuestPort`] is the guest's bus of `def_guests`, call by call. It stands over any memory, and knows no board.
 #![tactic(auto)]
 
 mod bus_port;

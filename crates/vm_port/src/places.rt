@@ -3,7 +3,7 @@
 ghost use Rattle.std.specs.Prelude.{◌≡◌, ◌+◌, ◌%◌, ◌<◌, ◌≤◌, ◌^◌, length, IfSome};
 ghost use Rattle.mb_port.specs.Pieces.{IsAligned};
 ghost use Rattle.mb_walk.specs.Memory.{number_at, with_number};
-ghost use Rattle.mb_machine.specs.Places.{in_ram, stored, taken, takes_writes, stored_line, taken_line, Stores};
+ghost use Rattle.def_machine.specs.Places.{in_ram, stored, taken, takes_writes, stored_line, taken_line, Stores};
 
 use crate::port::GuestPort;
 use mb_port::Place;
@@ -51,7 +51,7 @@ impl<R: Ram> GuestPort<'_, R> {
 
     /// Reads RAM or a register. `None` where nothing answers the read, and nothing has changed.
     #[inline(always)]
-    #[tactic(auto, using(mb_machine::proofs::BusLemmas::reads))]
+    #[tactic(auto, using(def_machine::proofs::BusLemmas::reads))]
     pub(crate) fn take(&mut self, place: Place) -> Option<u32>
         requires { IsAligned place.at place.len }
         ensures taken { (result, world_of self.new) ≡ taken place (world_of self.old) }
@@ -68,7 +68,7 @@ impl<R: Ram> GuestPort<'_, R> {
 
     /// Writes RAM or a register. `None` where nothing takes the write, and nothing has changed.
     #[inline(always)]
-    #[tactic(auto, using(mb_machine::proofs::BusLemmas::writes))]
+    #[tactic(auto, using(def_machine::proofs::BusLemmas::writes))]
     pub(crate) fn store(&mut self, place: Place, value: u32) -> Option<()>
         requires { IsAligned place.at place.len }
         ensures stored { Stores (stored place value (world_of self.old)) (world_of self.old)
@@ -85,7 +85,7 @@ impl<R: Ram> GuestPort<'_, R> {
     }
 
     /// Whether RAM or a register takes a write.
-    #[tactic(auto, using(mb_machine::proofs::BusLemmas::takes))]
+    #[tactic(auto, using(def_machine::proofs::BusLemmas::takes))]
     pub(crate) fn takes_writes(&self, place: Place) -> bool
         ensures { result ≡ takes_writes (world_of self.now) place }
     {

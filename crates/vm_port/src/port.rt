@@ -15,7 +15,7 @@ use vm_tlb::Tlb;
 /// A guest's bus, by the rule of guests: its RAM with its tables behind it, its devices and its translation.
 ///
 /// Between any two calls the tables map the guest's shadow, each entry to its frame in the guest's RAM. Whether the
-/// shadow says what the guest's translation does is nothing to the bus: `vm_held` has the law that its runs keep that.
+/// shadow says what the guest's translation does is nothing to the bus: `law_held` has the law that its runs keep that.
 #[derive(Drop)]
 pub struct GuestPort<'a, R: Ram> {
     /// The board's memory.

@@ -1,11 +1,11 @@
 //! Reads that the shadow denied, filled and put before their instruction begins again.
 
 ghost use Rattle.std.specs.Prelude.{◌≡◌, Some, true, false, if◌then◌else◌};
-ghost use Rattle.vm_machine.specs.Refills.{after_access, can_refill};
+ghost use Rattle.def_guests.specs.Refills.{after_access, can_refill};
 ghost use Rattle.vm_port.specs.Quiet.{seen, refills_seen};
 
 use crate::port::GuestPort;
-use mb_machine::{Reference, Settled, root, through};
+use def_machine::{Reference, Settled, root, through};
 use mb_model::{has_big_pages, page_of};
 use mb_walk::{Ram, quiet_search};
 

@@ -4,11 +4,11 @@ ghost use Rattle.std.specs.Prelude.{◌≡◌, ◌+◌, ◌*◌, ◌≤◌, ◌<
 ghost use Rattle.mb_model.specs.Keeping.{rule_k, displaced, filled as kept_after, NamesPages};
 ghost use Rattle.mb_model.specs.declared.pages.TheConstants.{PAGE_SIZE};
 ghost use Rattle.vm_shadow.specs.Shadows.{nothing, with_page_put, dropped};
-ghost use Rattle.vm_machine.specs.Guests.{allows};
-ghost use Rattle.vm_machine.specs.Bus.{without_kept};
+ghost use Rattle.def_guests.specs.Guests.{allows};
+ghost use Rattle.def_guests.specs.Bus.{without_kept};
 
 use crate::port::GuestPort;
-use mb_machine::Reference;
+use def_machine::Reference;
 use mb_model::{Kept, page_of};
 use mb_port::Space;
 use mb_walk::Ram;

@@ -3,12 +3,12 @@
 ghost use Rattle.std.specs.Prelude.{◌≡◌, ◌*◌, ◌<◌, ◌^◌, length, IfSome};
 ghost use Rattle.mb_model.specs.Keeping.{rule_k, entry_for};
 ghost use Rattle.mb_model.specs.Pages.{page_of as page_number, offset_of};
-ghost use Rattle.mb_machine.specs.Access.{by_entry as by_kept_entry, searched, settled, translated, LeadsTo};
-ghost use Rattle.vm_machine.specs.Bus.{gone_settled, without_kept, gone, put_entry_of, accessed};
-ghost use Rattle.vm_machine.specs.Bus.{is_in_ram, is_split, is_writable};
+ghost use Rattle.def_machine.specs.Access.{by_entry as by_kept_entry, searched, settled, translated, LeadsTo};
+ghost use Rattle.def_guests.specs.Bus.{gone_settled, without_kept, gone, put_entry_of, accessed};
+ghost use Rattle.def_guests.specs.Bus.{is_in_ram, is_split, is_writable};
 
 use crate::port::GuestPort;
-use mb_machine::{Reference, Settled, by_entry, root, through, untranslated};
+use def_machine::{Reference, Settled, by_entry, root, through, untranslated};
 use mb_model::{PAGE_SIZE, has_big_pages, page_of};
 use mb_port::Space;
 use mb_walk::{Found, Ram, search, transparent};
@@ -62,7 +62,7 @@ impl<R: Ram> GuestPort<'_, R> {
 
     /// The physical address that a reference leads to. `None` where it is refused.
     #[inline(always)]
-    #[tactic(auto, unfolding(mb_machine::specs::Access::translated))]
+    #[tactic(auto, unfolding(def_machine::specs::Access::translated))]
     fn translated(&mut self, r: Reference) -> Option<u32>
         ensures means { (result, world_of self.new) ≡ translated rule_k r (world_of self.old) }
         ensures shadow { tables_of self.new ≡ without_kept (gone (world_of self.old) r) (tables_of self.old) }

@@ -1,12 +1,12 @@
 -- A guest on a board that began with a machine.
 use Rattle.std.proofs.Common.{◌∙◌, refl, ap}
 use Rattle.mb_model.specs.Keeping.{rule_k}
-use Rattle.vm_meaning.proofs.Runs.{ended-is_free}
-use Rattle.vm_machine.specs.Turns.{Turned, turn_of}
-use Rattle.vm_machine.specs.Seats.{machine_on}
-use Rattle.vm_machine.specs.Stages.{steps_for}
-use Rattle.vm_machine.proofs.ByRule.{turns_by_rule}
-use Rattle.vm_machine.proofs.Independent.{turns_are_independent}
+use Rattle.def_runs.proofs.Runs.{ended-is_free}
+use Rattle.def_guests.specs.Turns.{Turned, turn_of}
+use Rattle.def_guests.specs.Seats.{machine_on}
+use Rattle.def_guests.specs.Stages.{steps_for}
+use Rattle.def_guests.proofs.ByRule.{turns_by_rule}
+use Rattle.def_guests.proofs.Independent.{turns_are_independent}
 use Rattle.vm_saved.specs.Begins.{beginning, StartsBegin, StartsCount, StartsMark, BegunGuestsRunAlone}
 
 pub starts_begin : StartsBegin

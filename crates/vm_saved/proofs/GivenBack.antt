@@ -11,7 +11,7 @@ use Rattle.mb_model.specs.Keeping.{KeptLists, list_of}
 use Rattle.mb_devices.specs.Devices.{has_received}
 use Rattle.mb_devices.specs.Registers.{status_of}
 use Rattle.mb_walk.specs.Memory.{overwritten, with_contents}
-use Rattle.mb_machine.specs.Machine.{Machine, takes_steps}
+use Rattle.def_machine.specs.Machine.{Machine, takes_steps}
 use Rattle.mb_saved.specs.declared.line.RamLine.{RamLine}
 use Rattle.mb_saved.specs.Saved.{is_off, is_stopped, is_zero}
 use Rattle.vm_saved.specs.Saved.{CanBeSaved, SavedIsGivenBack, GoingIsGivenBack, as_told, contents_of, first_lines, line_at, lines_of, ram_by}

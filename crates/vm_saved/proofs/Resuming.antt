@@ -3,11 +3,11 @@ use Rattle.std.proofs.Common.{◌≡◌, ◌∙◌, ℕ, ◌+◌, ◌-◌, ◌�
 use Rattle.std.specs.Prelude.{min}
 use Rattle.std.proofs.lemmas.Bool.{cases_Bool}
 use Rattle.mb_model.specs.Keeping.{rule_k}
-use Rattle.mb_machine.specs.Machine.{Entries, Machine, run_of, seen_machine, start, takes_steps}
+use Rattle.def_machine.specs.Machine.{Entries, Machine, run_of, seen_machine, start, takes_steps}
 use Rattle.mb_report.specs.Text.{outcome_text}
-use Rattle.vm_machine.specs.Turns.{Turned}
-use Rattle.vm_machine.specs.Rounds.{left}
-use Rattle.vm_machine.proofs.TurnLaws.{halted_turn, nothing_turned}
+use Rattle.def_guests.specs.Turns.{Turned}
+use Rattle.def_guests.specs.Rounds.{left}
+use Rattle.def_guests.proofs.TurnLaws.{halted_turn, nothing_turned}
 use Rattle.vm_saved.specs.Saved.{CanBeSaved, as_told, machine_of, saved_of}
 use Rattle.vm_saved.specs.Begins.{beginning, tally_from}
 use Rattle.vm_saved.specs.Cuts.{above}

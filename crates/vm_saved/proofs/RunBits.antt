@@ -11,21 +11,21 @@ use Rattle.mb_port.specs.declared.types.MmuReg.{MmuReg}
 use Rattle.mb_port.specs.declared.types.MmuReg.TheVariants.{Tc, Itt0, Itt1, Dtt0, Dtt1, Mmusr, Urp, Srp}
 use Rattle.mb_instr.specs.declared.control.ControlRegister.TheVariants as control
 use Rattle.mb_instr.specs.Control.{kept_bits}
-use Rattle.mb_laws.specs.Keeps.{Keeps}
-use Rattle.mb_laws.proofs.Kept.{run_keeps}
+use Rattle.law_routines.specs.Keeps.{Keeps}
+use Rattle.law_routines.proofs.Kept.{run_keeps}
 use Rattle.mb_model.specs.declared.processor.Cpu.{Cpu}
 use Rattle.mb_model.specs.Keeping.{Rule}
 use Rattle.mb_devices.specs.Devices.{has_received, level_of}
-use Rattle.mb_processor.specs.Step.{step_of}
-use Rattle.mb_machine.specs.Bus.{bus_of, fetching_of, reading_of, tested_by, writing_of}
-use Rattle.mb_machine.specs.Access.{matched}
+use Rattle.def_processor.specs.Step.{step_of}
+use Rattle.def_machine.specs.Bus.{bus_of, fetching_of, reading_of, tested_by, writing_of}
+use Rattle.def_machine.specs.Access.{matched}
 use Rattle.mb_port.specs.declared.types.Space.{Space}
 use Rattle.mb_model.specs.Pages.{page_of}
 use Rattle.mb_model.specs.Reset.{mmu_at_reset}
-use Rattle.mb_machine.specs.Machine.{Entries, Machine, aborts, asked_of, begun, reset_with, stepped, takes_steps}
-use Rattle.mb_machine.specs.World.{World}
-use Rattle.mb_machine.proofs.Beneath.{calls_stand_beneath, places_stand_beneath}
-use Rattle.mb_machine.proofs.Refusals.{translated-beside}
+use Rattle.def_machine.specs.Machine.{Entries, Machine, aborts, asked_of, begun, reset_with, stepped, takes_steps}
+use Rattle.def_machine.specs.World.{World}
+use Rattle.def_machine.proofs.Beneath.{calls_stand_beneath, places_stand_beneath}
+use Rattle.def_machine.proofs.Refusals.{translated-beside}
 use Rattle.mb_saved.specs.Saved.{HasBits}
 use Rattle.vm_saved.specs.Bits.{HasItsBits, RunsKeepBits, StartsHaveBits}
 use Rattle.vm_saved.proofs.Runs.{going_run, halted_run, nothing_run}

@@ -4,9 +4,9 @@ use Rattle.std.proofs.lemmas.Bool.{cases_Bool}
 use Rattle.mb_model.specs.Keeping.{Rule}
 use Rattle.mb_model.specs.declared.processor.Cpu.{Cpu}
 use Rattle.mb_devices.specs.Devices.{DeviceState}
-use Rattle.mb_processor.specs.declared.Finish.{Finish}
-use Rattle.mb_processor.specs.declared.Finish.TheVariants as finish
-use Rattle.mb_machine.specs.Machine.{Entries, Machine, begun, going, processed, reset_with, run_of, state_after, stepped, takes_steps}
+use Rattle.def_processor.specs.declared.Finish.{Finish}
+use Rattle.def_processor.specs.declared.Finish.TheVariants as finish
+use Rattle.def_machine.specs.Machine.{Entries, Machine, begun, going, processed, reset_with, run_of, state_after, stepped, takes_steps}
 use Rattle.vm_saved.specs.Begins.{RunsAdd, HaltedRunsStay, GoingRunsCount, RunsCount, IsGoing, RunsAreGoing, StartsAreGoing}
 
 pub halted_run : HaltedRunsStay

@@ -16,16 +16,16 @@ use Rattle.mb_walk.specs.declared.found.Found.{Found}
 use Rattle.mb_walk.specs.declared.found.Found.TheVariants as found
 use Rattle.mb_walk.specs.Memory.{Contents, overwritten, with_contents}
 use Rattle.mb_walk.proofs.MemoryLemmas.{length-overwritten, overwritten-nothing}
-use Rattle.mb_machine.specs.declared.reference.Reference.{Reference}
-use Rattle.mb_machine.specs.declared.reference.Settled.{Settled}
-use Rattle.mb_machine.specs.declared.reference.Settled.TheVariants.{To, Refused, Unsettled}
-use Rattle.mb_machine.specs.World.{World}
-use Rattle.mb_machine.specs.Access.{by_found, by_settled, matched, search_for, settled, translated}
-use Rattle.mb_machine.specs.Bus.{bus_of, fetching_of, reading_of, tested_by, writing_of}
-use Rattle.mb_machine.specs.Machine.{reset_with, run_of, takes_steps}
-use Rattle.mb_machine.proofs.Beneath.{calls_stand_beneath, places_stand_beneath, runs_leave_the_size}
-use Rattle.mb_machine.proofs.Builds.{built-run}
-use Rattle.mb_machine.proofs.RunsLeave.{runs_leave}
+use Rattle.def_machine.specs.declared.reference.Reference.{Reference}
+use Rattle.def_machine.specs.declared.reference.Settled.{Settled}
+use Rattle.def_machine.specs.declared.reference.Settled.TheVariants.{To, Refused, Unsettled}
+use Rattle.def_machine.specs.World.{World}
+use Rattle.def_machine.specs.Access.{by_found, by_settled, matched, search_for, settled, translated}
+use Rattle.def_machine.specs.Bus.{bus_of, fetching_of, reading_of, tested_by, writing_of}
+use Rattle.def_machine.specs.Machine.{reset_with, run_of, takes_steps}
+use Rattle.def_machine.proofs.Beneath.{calls_stand_beneath, places_stand_beneath, runs_leave_the_size}
+use Rattle.def_machine.proofs.Builds.{built-run}
+use Rattle.def_machine.proofs.RunsLeave.{runs_leave}
 use Rattle.mb_saved.specs.declared.line.RamLine.{RamLine}
 use Rattle.mb_saved.specs.Saved.{IsLine, is_off, is_stopped}
 use Rattle.vm_saved.specs.Saved.{content_of, contents_of, ram_by}

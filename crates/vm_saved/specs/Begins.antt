@@ -2,12 +2,12 @@
 use Rattle.std.specs.Prelude.{◌≡◌, ℕ, ◌+◌, ◌-◌, ◌*◌, ◌<◌, ◌≤◌, true, false, List, [], ◌++◌, length}
 use Rattle.mb_instr.specs.declared.registers.Plain.{Plain}
 use Rattle.mb_model.specs.Keeping.{Rule, rule_k}
-use Rattle.mb_machine.specs.Machine.{Entries, Machine, Opening, going, run_of, start, takes_steps}
+use Rattle.def_machine.specs.Machine.{Entries, Machine, Opening, going, run_of, start, takes_steps}
 use Rattle.vm_shadow.specs.Shadows.{nothing}
-use Rattle.vm_meaning.specs.Free.{IsFreeRun}
-use Rattle.vm_machine.specs.Turns.{Tally, Turned, no_steps, prepared, tally_of, marks_between, turn_of, steps_in, without_marks}
-use Rattle.vm_machine.specs.Seats.{Seat, machine_on, turned_on}
-use Rattle.vm_machine.specs.Stages.{Stage, AllSeated, Turns, TakeTurns, steps_for}
+use Rattle.def_runs.specs.Free.{IsFreeRun}
+use Rattle.def_guests.specs.Turns.{Tally, Turned, no_steps, prepared, tally_of, marks_between, turn_of, steps_in, without_marks}
+use Rattle.def_guests.specs.Seats.{Seat, machine_on, turned_on}
+use Rattle.def_guests.specs.Stages.{Stage, AllSeated, Turns, TakeTurns, steps_for}
 
 -- ---- a beginning
 

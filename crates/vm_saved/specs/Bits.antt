@@ -1,7 +1,7 @@
 -- Whatever a machine runs, its registers have no bits but those that they keep.
 use Rattle.std.specs.Prelude.{ℕ}
 use Rattle.mb_model.specs.Keeping.{Rule}
-use Rattle.mb_machine.specs.Machine.{Entries, Machine, Opening, run_of, start}
+use Rattle.def_machine.specs.Machine.{Entries, Machine, Opening, run_of, start}
 use Rattle.mb_saved.specs.Saved.{HasBits}
 
 abbrev pub HasItsBits : Machine → Type 0

@@ -3,10 +3,10 @@ use Rattle.std.specs.Prelude.{◌≡◌, ℕ, ◌+◌, ◌-◌, ◌%◌, ◌^◌
 use Rattle.vm_disk.specs.Disk.{DiskState}
 use Rattle.mb_srec.specs.Image.{LiesBelow}
 use Rattle.mb_model.specs.Keeping.{rule_k}
-use Rattle.mb_machine.specs.Machine.{Entries, Machine, Opening, run_of, seen_machine, start, takes_steps}
+use Rattle.def_machine.specs.Machine.{Entries, Machine, Opening, run_of, seen_machine, start, takes_steps}
 use Rattle.mb_report.specs.Text.{outcome_text}
-use Rattle.vm_machine.specs.Turns.{no_steps}
-use Rattle.vm_machine.specs.Rounds.{Member, left}
+use Rattle.def_guests.specs.Turns.{no_steps}
+use Rattle.def_guests.specs.Rounds.{Member, left}
 use Rattle.mb_saved.specs.Saved.{IsLawful, Saved}
 use Rattle.vm_saved.specs.Saved.{CanBeSaved, machine_of, saved_of}
 use Rattle.vm_saved.specs.Begins.{beginning, tally_from}

@@ -9,7 +9,7 @@ use Rattle.mb_devices.specs.Registers.{status_of}
 use Rattle.mb_saved.specs.declared.line.RamLine.{RamLine}
 use Rattle.mb_saved.specs.Saved.{Saved, is_off, is_stopped, is_zero}
 use Rattle.mb_walk.specs.Memory.{Contents, with_contents}
-use Rattle.mb_machine.specs.Machine.{Machine, going, takes_steps}
+use Rattle.def_machine.specs.Machine.{Machine, going, takes_steps}
 
 -- ---- the machine that was saved
 

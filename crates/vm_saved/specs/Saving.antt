@@ -3,7 +3,7 @@ use Rattle.std.specs.Prelude.{◌≡◌, ℕ, ◌%◌, All, length, Option}
 use Rattle.vm_disk.specs.Disk.{DiskState}
 use Rattle.mb_srec.specs.Image.{LiesBelow}
 use Rattle.mb_model.specs.Keeping.{Rule, rule_k}
-use Rattle.mb_machine.specs.Machine.{Entries, Machine, Opening, run_of, start}
+use Rattle.def_machine.specs.Machine.{Entries, Machine, Opening, run_of, start}
 use Rattle.mb_saved.specs.Saved.{IsLawful, Saved}
 use Rattle.vm_saved.specs.Saved.{CanBeSaved, machine_of}
 

@@ -1,4 +1,4 @@
-//! Guests that go on from a saved machine: laws of the definitions of `vm_machine`.
+//! Guests that go on from a saved machine: laws of the definitions of `def_guests`.
 //!
 //! [`specs/Saved`] has what a snapshot tells of a machine and the machine that it is; [`specs/Begins`] the runs, counts
 //! and marks of a guest that begins with any machine; [`specs/Bits`] what bits registers have; [`specs/Saving`] which

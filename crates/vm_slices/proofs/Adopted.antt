@@ -2,10 +2,10 @@
 use Rattle.std.proofs.Common.{◌≡◌, ◌∙◌, ℕ, zero, suc, ◌+◌, ◌<◌, List, [], ◌∷◌, length, get_or, set, refl, ap, sym, subst, arith}
 use Rattle.std.specs.Prelude.{slice_get, IfSome}
 use Rattle.mb_saved.specs.Saved.{Saved}
-use Rattle.mb_machine.specs.Machine.{Entries}
-use Rattle.vm_machine.specs.Rounds.{Member, closed_by}
-use Rattle.vm_machine.specs.Seats.{Seat, end_of, guested_on, turned_on, IsSame, IsSeated, OnlyWithin}
-use Rattle.vm_machine.specs.Turns.{Turned}
+use Rattle.def_machine.specs.Machine.{Entries}
+use Rattle.def_guests.specs.Rounds.{Member, closed_by}
+use Rattle.def_guests.specs.Seats.{Seat, end_of, guested_on, turned_on, IsSame, IsSeated, OnlyWithin}
+use Rattle.def_guests.specs.Turns.{Turned}
 use Rattle.vm_saved.specs.Begins.{beginning}
 use Rattle.vm_saved.specs.Saved.{machine_of}
 use Rattle.vm_guest.specs.Memory.{OnlyBetween}

@@ -2,11 +2,11 @@
 use Rattle.std.proofs.Common.{◌≡◌, ◌∙◌, ℕ, List, [], ap}
 use Rattle.std.specs.Prelude.{Option, None}
 use Rattle.vm_disk.specs.Disk.{DiskState}
-use Rattle.mb_machine.specs.Machine.{Entries, diskless, reset_with}
+use Rattle.def_machine.specs.Machine.{Entries, diskless, reset_with}
 use Rattle.mb_walk.specs.Memory.{Contents}
-use Rattle.vm_machine.specs.Seats.{Seat, turned_on, IsSeated}
-use Rattle.vm_machine.specs.Rounds.{Member}
-use Rattle.vm_machine.specs.Turns.{Turned, prepared}
+use Rattle.def_guests.specs.Seats.{Seat, turned_on, IsSeated}
+use Rattle.def_guests.specs.Rounds.{Member}
+use Rattle.def_guests.specs.Turns.{Turned, prepared}
 use Rattle.vm_guest.specs.Session.{GuestAtStart}
 use Rattle.vm_guest.proofs.Seated.{begun_seated}
 use Rattle.vm_slices.specs.Members.{member_at_start, with_disk}

@@ -5,9 +5,9 @@ use Rattle.std.specs.Prelude.{All, sum_by}
 use Rattle.std.proofs.lemmas.List.{append-nil, length-map}
 use Rattle.std.proofs.lemmas.List.Sums.{sum_by-cons}
 use Rattle.vm_shadow.specs.declared.area.TheConstants.{AREA_BYTES}
-use Rattle.vm_machine.specs.Seats.{end_of, IsSeated}
-use Rattle.vm_machine.specs.declared.limits.TheConstants.{MONITOR_BYTES}
-use Rattle.vm_machine.specs.Rounds.{Member}
+use Rattle.def_guests.specs.Seats.{end_of, IsSeated}
+use Rattle.def_guests.specs.declared.limits.TheConstants.{MONITOR_BYTES}
+use Rattle.def_guests.specs.Rounds.{Member}
 use Rattle.vm_guest.specs.Memory.{OnlyBetween}
 use Rattle.vm_guest.specs.Session.{GuestAtStart, IsGuest}
 use Rattle.vm_guest.proofs.Seated.{only_within}

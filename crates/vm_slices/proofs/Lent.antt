@@ -3,7 +3,7 @@ use Rattle.std.proofs.Common.{◌≡◌, ℕ, zero, suc, ◌<◌, List, [], ◌�
 use Rattle.std.specs.Prelude.{All}
 use Rattle.std.proofs.lemmas.List.{length-set}
 use Rattle.mb_devices.specs.Devices.{DeviceState}
-use Rattle.vm_machine.specs.Seats.{end_of}
+use Rattle.def_guests.specs.Seats.{end_of}
 use Rattle.vm_guest.proofs.Seated.{begun_seated}
 use Rattle.vm_slices.specs.declared.host_guest.HostGuest.{HostGuest}
 use Rattle.vm_slices.specs.Lending.{with_devices, with_devices_at}

@@ -7,12 +7,12 @@ use Rattle.std.proofs.lemmas.Bool.Decides.{nat_tests}
 use Rattle.mb_instr.specs.declared.registers.Plain.{Plain}
 use Rattle.mb_script.specs.declared.turn.Turn.{Turn}
 use Rattle.mb_model.specs.Keeping.{rule_k}
-use Rattle.mb_machine.specs.Machine.{Entries, Machine, run_of, takes_steps}
-use Rattle.vm_meaning.specs.Native.{NativeState}
-use Rattle.vm_machine.specs.Turns.{Tally, Turned, turn_of, without_marks}
-use Rattle.vm_machine.specs.Rounds.{Member, Hosted, left, left_of_all, opened, closed_by, whole_turn}
-use Rattle.vm_machine.proofs.ByRule.{turns_by_rule}
-use Rattle.vm_machine.proofs.TurnLaws.{halted_turn, nothing_turned, turns_add, turn_front}
+use Rattle.def_machine.specs.Machine.{Entries, Machine, run_of, takes_steps}
+use Rattle.def_runs.specs.Native.{NativeState}
+use Rattle.def_guests.specs.Turns.{Tally, Turned, turn_of, without_marks}
+use Rattle.def_guests.specs.Rounds.{Member, Hosted, left, left_of_all, opened, closed_by, whole_turn}
+use Rattle.def_guests.proofs.ByRule.{turns_by_rule}
+use Rattle.def_guests.proofs.TurnLaws.{halted_turn, nothing_turned, turns_add, turn_front}
 use Rattle.vm_slices.specs.Counting.{AreCounted, RisesBy}
 use Rattle.vm_slices.specs.Members.{after_turn, machine_at_end, machines_of, tally_at_end}
 use Rattle.vm_slices.specs.Orders.{after_order, each_given, given, in_order, machine_given, machines_given, steps_given}

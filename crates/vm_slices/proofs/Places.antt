@@ -5,15 +5,15 @@ use Rattle.std.specs.Prelude.{slice_get, ◌&&◌, All}
 use Rattle.std.proofs.Common.{append_assoc}
 use Rattle.std.proofs.lemmas.List.{append-nil}
 use Rattle.mb_instr.specs.declared.registers.Plain.{Plain}
-use Rattle.vm_meaning.specs.Marks.{trail}
-use Rattle.vm_meaning.specs.Native.{NativeState}
-use Rattle.vm_machine.specs.Turns.{Turned}
-use Rattle.vm_machine.specs.Seats.{end_of, IsSame, IsSeated, OnlyWithin}
-use Rattle.vm_machine.specs.declared.limits.TheConstants.{MONITOR_BYTES}
-use Rattle.vm_machine.specs.Rounds.{Member, left, is_done, all_done, left_of_all, turn_in, members_after, marks_after}
-use Rattle.vm_machine.proofs.Seated.{Alone, alone, turned_alone}
+use Rattle.def_runs.specs.Marks.{trail}
+use Rattle.def_runs.specs.Native.{NativeState}
+use Rattle.def_guests.specs.Turns.{Turned}
+use Rattle.def_guests.specs.Seats.{end_of, IsSame, IsSeated, OnlyWithin}
+use Rattle.def_guests.specs.declared.limits.TheConstants.{MONITOR_BYTES}
+use Rattle.def_guests.specs.Rounds.{Member, left, is_done, all_done, left_of_all, turn_in, members_after, marks_after}
+use Rattle.def_guests.proofs.Seated.{Alone, alone, turned_alone}
 use Rattle.vm_slices.specs.declared.host_guest.HostGuest.{HostGuest}
-use Rattle.vm_machine.proofs.Trails.{trail_append}
+use Rattle.def_guests.proofs.Trails.{trail_append}
 use Rattle.vm_slices.specs.Counting.{AreCounted, HasRoom, RisesBy}
 use Rattle.vm_slices.specs.Members.{after_turn, IsBounded}
 use Rattle.vm_slices.specs.Places.{member_of, members_of, StandFrom, with_member, with_turn, marks_at}

@@ -5,13 +5,13 @@ use Rattle.std.specs.Prelude.{nat_le, All}
 use Rattle.std.proofs.lemmas.Bool.{cases_Bool, cases_lt}
 use Rattle.std.proofs.lemmas.Bool.Decides.{nat_tests}
 use Rattle.mb_instr.specs.declared.registers.Plain.{Plain}
-use Rattle.mb_machine.specs.Machine.{Machine, takes_steps}
-use Rattle.vm_meaning.specs.Native.{NativeState}
-use Rattle.vm_machine.specs.Turns.{Tally}
-use Rattle.vm_machine.specs.Rounds.{Member, left, is_done, opened, Hosted, members_after, marks_after, round, all_done, left_of_all}
-use Rattle.vm_machine.specs.Rounds.{rounds, host_run, WholeTurns}
-use Rattle.vm_machine.proofs.ByRule.{turns_by_rule}
-use Rattle.vm_machine.proofs.Rounds.{rounds_end_all}
+use Rattle.def_machine.specs.Machine.{Machine, takes_steps}
+use Rattle.def_runs.specs.Native.{NativeState}
+use Rattle.def_guests.specs.Turns.{Tally}
+use Rattle.def_guests.specs.Rounds.{Member, left, is_done, opened, Hosted, members_after, marks_after, round, all_done, left_of_all}
+use Rattle.def_guests.specs.Rounds.{rounds, host_run, WholeTurns}
+use Rattle.def_guests.proofs.ByRule.{turns_by_rule}
+use Rattle.def_guests.proofs.Rounds.{rounds_end_all}
 use Rattle.vm_slices.specs.Counting.{AreCounted, HasRoom, RisesBy}
 use Rattle.vm_slices.specs.Members.{machine_at_end, tally_at_end, after_rounds, machines_of, tallies_of, IsBounded}
 use Rattle.vm_slices.proofs.Places.{counted_on, nothing_counted}

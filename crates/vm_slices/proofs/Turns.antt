@@ -1,13 +1,13 @@
 -- A guest's turn of a round, on its board.
 use Rattle.std.proofs.Common.{◌≡◌, ◌∙◌, ℕ, zero, suc, ◌+◌, ◌-◌, ◌≤◌, min, List, [], ◌∷◌, refl, ap, sym, true, false, inl, inr, arith}
 use Rattle.std.proofs.lemmas.Bool.{cases_Bool}
-use Rattle.mb_machine.specs.Machine.{Entries, takes_steps}
-use Rattle.vm_meaning.specs.Marks.{trail}
-use Rattle.vm_meaning.specs.Native.{NativeState}
-use Rattle.vm_machine.specs.Turns.{Turned, advanced, turn_of}
-use Rattle.vm_machine.specs.Seats.{Seat, turned_on, Takes}
-use Rattle.vm_machine.specs.Rounds.{Member, left, opened, closed_by, turn_in}
-use Rattle.vm_machine.proofs.TurnLaws.{halted_turn, going_turn, nothing_turned}
+use Rattle.def_machine.specs.Machine.{Entries, takes_steps}
+use Rattle.def_runs.specs.Marks.{trail}
+use Rattle.def_runs.specs.Native.{NativeState}
+use Rattle.def_guests.specs.Turns.{Turned, advanced, turn_of}
+use Rattle.def_guests.specs.Seats.{Seat, turned_on, Takes}
+use Rattle.def_guests.specs.Rounds.{Member, left, opened, closed_by, turn_in}
+use Rattle.def_guests.proofs.TurnLaws.{halted_turn, going_turn, nothing_turned}
 use Rattle.vm_guest.specs.Turns.{scene, RisesByAtMost}
 use Rattle.vm_slices.specs.declared.host_guest.HostGuest.{HostGuest}
 use Rattle.vm_slices.specs.Counting.{AreCounted}

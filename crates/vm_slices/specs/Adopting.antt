@@ -3,9 +3,9 @@ use Rattle.std.specs.Prelude.{◌≡◌, ℕ, List, length, map, slice_get, Opti
 use Rattle.mb_model.specs.declared.kept.Kept.{Kept}
 use Rattle.mb_model.specs.Keeping.{list_of}
 use Rattle.mb_saved.specs.Saved.{Saved}
-use Rattle.mb_machine.specs.Machine.{Entries}
-use Rattle.vm_machine.specs.Turns.{no_steps}
-use Rattle.vm_machine.specs.Rounds.{Member}
+use Rattle.def_machine.specs.Machine.{Entries}
+use Rattle.def_guests.specs.Turns.{no_steps}
+use Rattle.def_guests.specs.Rounds.{Member}
 use Rattle.vm_saved.specs.Begins.{beginning}
 use Rattle.vm_saved.specs.Saved.{machine_of}
 

@@ -1,10 +1,10 @@
 -- What boards count of the steps of a session's guests.
 use Rattle.std.specs.Prelude.{◌≡◌, ℕ, ◌+◌, ◌*◌, ◌^◌, ◌<◌, ◌≤◌, List, [], ◌∷◌}
 use Rattle.mb_instr.specs.declared.registers.Plain.{Plain}
-use Rattle.vm_meaning.specs.Marks.{trail}
-use Rattle.vm_meaning.specs.Native.{NativeState}
-use Rattle.vm_machine.specs.Turns.{exits}
-use Rattle.vm_machine.specs.Rounds.{Member}
+use Rattle.def_runs.specs.Marks.{trail}
+use Rattle.def_runs.specs.Native.{NativeState}
+use Rattle.def_guests.specs.Turns.{exits}
+use Rattle.def_guests.specs.Rounds.{Member}
 
 -- the retired steps of all guests
 abbrev pub retired_by : List Member → ℕ

@@ -1,7 +1,7 @@
 -- The board's memory that a session needs.
 use Rattle.std.specs.Prelude.{ℕ, ◌+◌, ◌≤◌, List, sum_by}
 use Rattle.vm_shadow.specs.declared.area.TheConstants.{AREA_BYTES}
-use Rattle.vm_machine.specs.declared.limits.TheConstants.{MONITOR_BYTES}
+use Rattle.def_guests.specs.declared.limits.TheConstants.{MONITOR_BYTES}
 use Rattle.vm_guest.specs.Session.{GuestAtStart, SessionAtStart}
 
 -- the bytes of a guest's RAM and tables

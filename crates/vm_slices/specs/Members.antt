@@ -4,10 +4,10 @@ use Rattle.vm_disk.specs.Disk.{DiskState}
 use Rattle.mb_devices.specs.Devices.{DeviceState}
 use Rattle.mb_model.specs.Keeping.{rule_k}
 use Rattle.mb_model.specs.Seen.{Seen}
-use Rattle.mb_machine.specs.Machine.{Machine, Outcome, outcome_of, run_of, seen_machine}
-use Rattle.vm_machine.specs.Turns.{Tally, no_steps, prepared}
-use Rattle.vm_machine.specs.Seats.{Seat}
-use Rattle.vm_machine.specs.Rounds.{Member, Hosted, left, closed_by, turn_in, host_run, whole_turn}
+use Rattle.def_machine.specs.Machine.{Machine, Outcome, outcome_of, run_of, seen_machine}
+use Rattle.def_guests.specs.Turns.{Tally, no_steps, prepared}
+use Rattle.def_guests.specs.Seats.{Seat}
+use Rattle.def_guests.specs.Rounds.{Member, Hosted, left, closed_by, turn_in, host_run, whole_turn}
 use Rattle.vm_guest.specs.Session.{GuestAtStart}
 
 -- ---- one guest

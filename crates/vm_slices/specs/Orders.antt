@@ -2,9 +2,9 @@
 use Rattle.std.specs.Prelude.{ℕ, suc, ◌-◌, min, List, [], ◌∷◌, ◌++◌, map}
 use Rattle.mb_script.specs.declared.turn.Turn.{Turn}
 use Rattle.mb_model.specs.Keeping.{rule_k}
-use Rattle.mb_machine.specs.Machine.{Machine, run_of}
-use Rattle.vm_machine.specs.Stages.{Turns, steps_for}
-use Rattle.vm_machine.specs.Rounds.{Member, Hosted, left}
+use Rattle.def_machine.specs.Machine.{Machine, run_of}
+use Rattle.def_guests.specs.Stages.{Turns, steps_for}
+use Rattle.def_guests.specs.Rounds.{Member, Hosted, left}
 use Rattle.vm_slices.specs.Members.{after_rounds, after_turn}
 use Rattle.vm_slices.specs.Places.{marks_at, with_turn}
 

@@ -1,10 +1,10 @@
 -- Guests of a session on a board.
 use Rattle.std.specs.Prelude.{ℕ, ◌≤◌, List, [], ◌∷◌, length, map, zero, suc, All}
 use Rattle.mb_instr.specs.declared.registers.Plain.{Plain}
-use Rattle.vm_machine.specs.Seats.{guested_on, end_of, IsSeated}
-use Rattle.vm_machine.specs.declared.limits.TheConstants.{MONITOR_BYTES}
+use Rattle.def_guests.specs.Seats.{guested_on, end_of, IsSeated}
+use Rattle.def_guests.specs.declared.limits.TheConstants.{MONITOR_BYTES}
 use Rattle.mb_script.specs.declared.sizes.TheConstants.{MOST_GUESTS}
-use Rattle.vm_machine.specs.Rounds.{Member, turn_in}
+use Rattle.def_guests.specs.Rounds.{Member, turn_in}
 use Rattle.vm_slices.specs.declared.host_guest.HostGuest.{HostGuest}
 use Rattle.vm_slices.specs.Members.{after_turn, IsBounded}
 

@@ -2,8 +2,8 @@
 
 ghost use Rattle.std.specs.Prelude.{◌≡◌, ◌+◌, ◌-◌, ◌<◌, ◌≤◌, length, slice_get, IfSome, All};
 ghost use Rattle.mb_saved.specs.Saved.{IsLawful};
-ghost use Rattle.vm_machine.specs.Seats.{IsSame, IsSeated, OnlyWithin};
-ghost use Rattle.vm_machine.specs.declared.limits.TheConstants.{MONITOR_BYTES};
+ghost use Rattle.def_guests.specs.Seats.{IsSame, IsSeated, OnlyWithin};
+ghost use Rattle.def_guests.specs.declared.limits.TheConstants.{MONITOR_BYTES};
 ghost use Rattle.vm_slices.specs.Adopting.{begun, bounded, CanAdopt};
 ghost use Rattle.vm_slices.specs.Members.{numbered, IsBounded};
 ghost use Rattle.vm_slices.specs.Places.{member_of, members_in, members_of, with_member, StandFrom};

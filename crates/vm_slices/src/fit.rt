@@ -6,8 +6,8 @@ ghost use Rattle.vm_slices.specs.declared.open_fault.OpenFault.TheVariants as op
 ghost use Rattle.vm_slices.specs.Fit.{Fits, need_of};
 
 use crate::open_fault::OpenFault;
+use def_guests::MONITOR_BYTES;
 use vm_guest::{Session, SessionGuest};
-use vm_machine::MONITOR_BYTES;
 use vm_shadow::AREA_BYTES;
 
 /// The monitor's bytes, and the RAM and the tables of all guests.

@@ -2,8 +2,8 @@
 
 ghost use Rattle.std.specs.Prelude.{◌≡◌, ◌+◌, ◌-◌, ◌^◌, ◌<◌, ◌≤◌, length, map, true, Some, IfOk, IfErr, All};
 ghost use Rattle.mb_model.specs.Seen.{seen_of};
-ghost use Rattle.vm_machine.specs.declared.limits.TheConstants.{MONITOR_BYTES};
-ghost use Rattle.vm_machine.specs.Rounds.{all_done, left_of_all, members_after, marks_after};
+ghost use Rattle.def_guests.specs.declared.limits.TheConstants.{MONITOR_BYTES};
+ghost use Rattle.def_guests.specs.Rounds.{all_done, left_of_all, members_after, marks_after};
 ghost use Rattle.vm_guest.specs.Session.{IsGuest, IsSession};
 ghost use Rattle.vm_slices.specs.declared.open_fault.OpenFault.TheVariants as open_fault;
 ghost use Rattle.vm_slices.specs.Fit.{need_of, Fits};
@@ -21,6 +21,7 @@ use crate::fit::judge_fit;
 use crate::host_guest::HostGuest;
 use crate::open_fault::OpenFault;
 use crate::rounds::{are_done, take_round, take_turn};
+use def_guests::MONITOR_BYTES;
 use mb_board::{Board, Native};
 use mb_devices::Devices;
 use mb_model::{Kept, Outcome};
@@ -30,7 +31,6 @@ use mb_walk::Ram;
 use std::alloc::Global;
 use std::marker::Model;
 use vm_guest::{Counts, Session, SessionGuest};
-use vm_machine::MONITOR_BYTES;
 use vm_shadow::AREA_BYTES;
 
 /// All guests of a session on their board. Guests are numbered from 1.

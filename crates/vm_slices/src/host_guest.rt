@@ -2,9 +2,9 @@
 
 ghost use Rattle.std.specs.Prelude.{◌≡◌, ◌+◌, ◌%◌, ◌^◌, ◌<◌, ◌≤◌, [], ◌∷◌, length, IfOk, None, OnOk};
 ghost use Rattle.vm_shadow.specs.declared.area.TheConstants.{AREA_BYTES};
-ghost use Rattle.vm_machine.specs.Seats.{IsSame, IsSeated, OnlyWithin};
-ghost use Rattle.vm_machine.specs.declared.limits.TheConstants.{MONITOR_BYTES};
-ghost use Rattle.vm_machine.specs.Rounds.{left, is_done, turn_in};
+ghost use Rattle.def_guests.specs.Seats.{IsSame, IsSeated, OnlyWithin};
+ghost use Rattle.def_guests.specs.declared.limits.TheConstants.{MONITOR_BYTES};
+ghost use Rattle.def_guests.specs.Rounds.{left, is_done, turn_in};
 ghost use Rattle.vm_guest.specs.Memory.{OnlyBetween};
 ghost use Rattle.vm_guest.specs.Session.{IsGuest};
 ghost use Rattle.vm_slices.specs.Counting.{AreCounted, HasRoom, RisesBy};

@@ -1,7 +1,7 @@
 //! All guests of a session on one board.
 //!
 //! [`Host`] holds the board and the guests, each on its own part of the board's memory behind the monitor's. Its
-//! clauses speak of the guests as the members of a session of `vm_machine`, each with its own machine and shadow, and
+//! clauses speak of the guests as the members of a session of `def_guests`, each with its own machine and shadow, and
 //! not of the board or the places on it. Rounds of turns are those that are defined there.
 #![tactic(auto)]
 

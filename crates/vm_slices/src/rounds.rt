@@ -1,8 +1,8 @@
 //! Rounds: in each, every guest takes its turn.
 
 ghost use Rattle.std.specs.Prelude.{◌≡◌, ◌≢◌, ℕ, ◌<◌, length, slice_get, All};
-ghost use Rattle.vm_machine.specs.declared.limits.TheConstants.{MONITOR_BYTES};
-ghost use Rattle.vm_machine.specs.Rounds.{all_done, left_of_all, members_after, marks_after};
+ghost use Rattle.def_guests.specs.declared.limits.TheConstants.{MONITOR_BYTES};
+ghost use Rattle.def_guests.specs.Rounds.{all_done, left_of_all, members_after, marks_after};
 ghost use Rattle.vm_slices.specs.Counting.{AreCounted, HasRoom, RisesBy};
 ghost use Rattle.vm_slices.specs.Members.{IsBounded};
 ghost use Rattle.vm_slices.specs.Places.{members_of, with_turn, marks_at, StandFrom};

@@ -4,8 +4,8 @@ use super::{ACCESS_ERROR, ILLEGAL, LONGS, TIMER, processor};
 use crate::steps::{NO_HOLE, put_longs, stands};
 use mb_entry::{Cause, Entered, enter};
 use mb_port::{Fault, Space};
-use mb_vector::VectorPort;
 use std::alloc::AllocError;
+use try_vector::VectorPort;
 
 /// The check of a long of a frame is refused.
 const REFUSED: Fault = Fault {

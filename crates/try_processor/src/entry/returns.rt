@@ -7,10 +7,10 @@ use crate::steps::{NO_HOLE, put_longs, stands};
 use mb_entry::{Cause, Entered, enter, return_from, return_held};
 use mb_frames::Access;
 use mb_port::{Fault, Space};
-use mb_vector::VectorPort;
 use mb_writes::{Ended, MovemFault};
 use std::alloc::AllocError;
 use std::process::Abort;
+use try_vector::VectorPort;
 
 const WENT: Ended = Ended::Done { flow: true };
 

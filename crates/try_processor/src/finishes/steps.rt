@@ -13,9 +13,9 @@ use mb_entry::continues;
 use mb_frames::{Access, Frame, Pend, from_bytes};
 use mb_model::Cpu;
 use mb_step::{Decoder, StepEnd, step};
-use mb_vector::VectorPort;
 use std::alloc::AllocError;
 use std::process::Abort;
+use try_vector::VectorPort;
 use vm_inject::{
     LeftOver, cause_of, finish_line, finish_movem, finish_trap, finish_writes, left_in,
 };

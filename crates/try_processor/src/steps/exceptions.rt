@@ -4,8 +4,8 @@ use super::{NO_HOLE, memory, processor, stands, steps};
 use Done::{A, D, Long};
 use mb_model::Cpu;
 use mb_step::{Decoder, StepEnd};
-use mb_vector::VectorPort;
 use std::alloc::AllocError;
+use try_vector::VectorPort;
 
 /// What was done before an exception.
 enum Done {

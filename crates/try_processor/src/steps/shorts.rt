@@ -3,8 +3,8 @@
 use super::{CODE, NO_HOLE, memory, processor, put};
 use mb_model::Cpu;
 use mb_step::{Decoder, StepEnd, step};
-use mb_vector::VectorPort;
 use std::alloc::{AllocError, Global};
+use try_vector::VectorPort;
 
 /// A byte of the operands, for steps in which it is refused.
 const HOLE: u32 = 0x1109;

@@ -1,6 +1,6 @@
 use Rattle.std.proofs.Common.{◌∙◌, ◌+◌, drop, sym, ap, arith}
 use Rattle.mb_devices.specs.Devices.{DeviceState}
-use Rattle.mb_machine.specs.Machine.{aborts, arrived}
+use Rattle.def_machine.specs.Machine.{aborts, arrived}
 use Rattle.mb_board.proofs.Due.{past-through, later-behind, none-outside, arrived-past, arrived-next, arrived-none}
 use Rattle.mb_board.proofs.Due.{aborts-past, aborts-none, so_far-next, so_far-none}
 use Rattle.mb_board.proofs.receiving.receive_due.Goals as goal

@@ -1,5 +1,5 @@
 use Rattle.std.proofs.Common.{◌≡◌, ℕ, ◌+◌, ◌≤◌, ◌<◌, ◌||◌, length, drop}
-use Rattle.mb_machine.specs.Machine.{aborts, arrived}
+use Rattle.def_machine.specs.Machine.{aborts, arrived}
 use Rattle.mb_board.specs.Arrivals.{due_at}
 use Rattle.mb_board.proofs.receiving.receive_due.Given as goal
 

@@ -1,8 +1,8 @@
 use Rattle.std.proofs.Common.{◌≡◌, sym, ap, ◌∙◌, inr}
 use Rattle.mb_port.specs.Routine.{run}
 use Rattle.mb_model.specs.declared.processor.Cpu.{Cpu}
-use Rattle.mb_processor.specs.Entry as entry
-use Rattle.mb_processor.specs.Entry.{frames_of, handler_regs, put_frames_of}
+use Rattle.def_processor.specs.Entry as entry
+use Rattle.def_processor.specs.Entry.{frames_of, handler_regs, put_frames_of}
 use Rattle.mb_entry.specs.Places.{places_seen}
 use Rattle.mb_entry.specs.Stacks.{frames_seen}
 use Rattle.mb_entry.proofs.Faulted.{of_the_fault, both_halted, halted_stays}

@@ -1,6 +1,6 @@
 use Rattle.std.proofs.Common.{◌≡◌, ◌-◌, [], length}
 use Rattle.mb_port.specs.Routine.{run}
-use Rattle.mb_processor.specs.Return.{read_longs_of}
+use Rattle.def_processor.specs.Return.{read_longs_of}
 use Rattle.mb_entry.proofs.taking.read_longs.Given as goal
 
 -- the longs that are left do what all do

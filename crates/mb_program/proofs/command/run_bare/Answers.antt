@@ -1,5 +1,5 @@
 use Rattle.std.proofs.Common.{Err, Ok, refl}
-use Rattle.mb_machine.specs.Machine.{Entries, Opening}
+use Rattle.def_machine.specs.Machine.{Entries, Opening}
 use Rattle.mb_words.specs.Words.{run_said}
 use Rattle.mb_files.specs.Reading.{Reading, gives}
 use Rattle.mb_files.specs.Reads.{IsRead}

@@ -5,7 +5,7 @@ use Rattle.mb_srec.specs.Image.{contents_of}
 use Rattle.mb_script.specs.Answers.{guest_said}
 use Rattle.mb_script.specs.Plan.{Guest}
 use Rattle.mb_walk.specs.Memory.{Contents}
-use Rattle.mb_machine.specs.Machine.{Entries, Opening}
+use Rattle.def_machine.specs.Machine.{Entries, Opening}
 use Rattle.vm_disk.specs.Disk.{DiskState}
 use Rattle.vm_guest.specs.Session.{GuestAtStart}
 use Rattle.mb_files.specs.Reading.{Reading, gives}

@@ -3,7 +3,7 @@ use Rattle.std.specs.Prelude.{All}
 use Rattle.std.proofs.lemmas.List.{length-map}
 use Rattle.std.proofs.lemmas.Result.{err_from_is_err_and}
 use Rattle.mb_script.specs.Plan.{IsTurnOf}
-use Rattle.vm_machine.specs.Rounds.{Member}
+use Rattle.def_guests.specs.Rounds.{Member}
 use Rattle.vm_slices.specs.Places.{members_in}
 use Rattle.vm_slices.specs.Members.{member_at_start}
 use Rattle.mb_program.proofs.RunLemmas.{carried_so, fits_so, machines_so, not_prepared, scripts_so, tallied_so}

@@ -2,7 +2,7 @@ use Rattle.std.proofs.Common.{refl}
 use Rattle.std.specs.Prelude.{option_map}
 use Rattle.mb_srec.specs.Image.{contents_of}
 use Rattle.mb_board.specs.State.{machine_in}
-use Rattle.mb_machine.specs.Machine.{Opening}
+use Rattle.def_machine.specs.Machine.{Opening}
 use Rattle.mb_program.proofs.MachineLemmas.{starts_with, starts_without}
 use Rattle.mb_program.proofs.machine.start_machine.Goals as goal
 

@@ -1,6 +1,6 @@
 use Rattle.std.proofs.Common.{◌≡◌, drop, length}
 use Rattle.mb_srec.specs.Image.{all_contents}
-use Rattle.mb_machine.specs.Machine.{with_ram}
+use Rattle.def_machine.specs.Machine.{with_ram}
 use Rattle.mb_walk.specs.Memory.{with_contents}
 use Rattle.mb_board.specs.State.{machine_in, with_machine}
 use Rattle.mb_program.proofs.machine.write_chunks.Given as goal

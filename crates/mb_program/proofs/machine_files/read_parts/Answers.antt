@@ -4,7 +4,7 @@ use Rattle.std.proofs.lemmas.Result.{err_from_is_err_and}
 use Rattle.mb_srec.specs.Image.{contents_of}
 use Rattle.mb_walk.specs.Memory.{Contents}
 use Rattle.mb_script.specs.Plan.{Disk}
-use Rattle.mb_machine.specs.Machine.{Entries, Opening}
+use Rattle.def_machine.specs.Machine.{Entries, Opening}
 use Rattle.mb_words.specs.Values.{file_said}
 use Rattle.mb_words.specs.Words.{Text}
 use Rattle.vm_disk.specs.Disk.{DiskState}

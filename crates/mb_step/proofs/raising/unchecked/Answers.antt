@@ -1,5 +1,5 @@
 use Rattle.std.proofs.Common.{◌∙◌, ap, sym}
-use Rattle.mb_processor.specs.Raise.{with_ct}
+use Rattle.def_processor.specs.Raise.{with_ct}
 use Rattle.mb_step.proofs.raising.unchecked.Goals as goal
 
 pub returns-clause-means : goal.returns-clause-means

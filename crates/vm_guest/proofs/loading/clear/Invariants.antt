@@ -1,6 +1,6 @@
 use Rattle.std.proofs.Common.{◌≡◌, ◌*◌, replicate}
 use Rattle.mb_walk.specs.Memory.{overwritten}
-use Rattle.mb_machine.specs.Machine.{with_ram}
+use Rattle.def_machine.specs.Machine.{with_ram}
 use Rattle.mb_board.specs.State.{machine_in, with_machine}
 use Rattle.vm_guest.proofs.loading.clear.Given as goal
 

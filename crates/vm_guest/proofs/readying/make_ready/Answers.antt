@@ -1,6 +1,6 @@
 use Rattle.std.proofs.Common.{◌∙◌, ap, sym}
 use Rattle.mb_model.specs.declared.processor.Cpu.{Cpu}
-use Rattle.mb_machine.specs.Machine.{with_cpu}
+use Rattle.def_machine.specs.Machine.{with_cpu}
 use Rattle.mb_board.specs.State.{machine_in, with_machine}
 use Rattle.vm_guest.proofs.MadeReady.{is_ready}
 use Rattle.vm_guest.proofs.readying.make_ready.Goals as goal

@@ -1,6 +1,6 @@
 use Rattle.std.proofs.Common.{◌∙◌, ap, sym}
-use Rattle.mb_processor.specs.declared.StepEnd.{StepEnd}
-use Rattle.mb_processor.specs.Raise.{by_its_end}
+use Rattle.def_processor.specs.declared.StepEnd.{StepEnd}
+use Rattle.def_processor.specs.Raise.{by_its_end}
 use Rattle.vm_inject.proofs.Traps.{trap_unchecked}
 use Rattle.vm_inject.proofs.finishing.finish_trap.Goals as goal
 

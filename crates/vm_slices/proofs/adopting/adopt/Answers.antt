@@ -1,8 +1,8 @@
 use Rattle.std.proofs.Common.{◌≡◌, List, get_or, set, ap, sym, subst}
 use Rattle.std.specs.Prelude.{All}
-use Rattle.vm_machine.specs.Seats.{IsSeated}
-use Rattle.vm_machine.specs.declared.limits.TheConstants.{MONITOR_BYTES}
-use Rattle.vm_machine.specs.Rounds.{Member}
+use Rattle.def_guests.specs.Seats.{IsSeated}
+use Rattle.def_guests.specs.declared.limits.TheConstants.{MONITOR_BYTES}
+use Rattle.def_guests.specs.Rounds.{Member}
 use Rattle.vm_slices.specs.declared.host_guest.HostGuest.{HostGuest}
 use Rattle.vm_slices.specs.Adopting.{begun, CanAdopt}
 use Rattle.vm_slices.specs.Members.{IsBounded}

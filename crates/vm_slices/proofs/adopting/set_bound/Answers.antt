@@ -1,7 +1,7 @@
 use Rattle.std.proofs.Common.{get_or, ap, sym, subst, List}
 use Rattle.std.specs.Prelude.{All}
-use Rattle.vm_machine.specs.declared.limits.TheConstants.{MONITOR_BYTES}
-use Rattle.vm_machine.specs.Rounds.{Member}
+use Rattle.def_guests.specs.declared.limits.TheConstants.{MONITOR_BYTES}
+use Rattle.def_guests.specs.Rounds.{Member}
 use Rattle.vm_slices.specs.declared.host_guest.HostGuest.{HostGuest}
 use Rattle.vm_slices.specs.Adopting.{bounded}
 use Rattle.vm_slices.specs.Members.{IsBounded}

@@ -1,7 +1,7 @@
 use Rattle.std.proofs.Common.{◌≡◌, ◌∙◌, ◌+◌, Bool, true, false, drop, ap, sym, arith}
 use Rattle.std.specs.Prelude.{◌&&◌}
-use Rattle.vm_machine.specs.declared.limits.TheConstants.{MONITOR_BYTES}
-use Rattle.vm_machine.specs.Rounds.{is_done, all_done}
+use Rattle.def_guests.specs.declared.limits.TheConstants.{MONITOR_BYTES}
+use Rattle.def_guests.specs.Rounds.{is_done, all_done}
 use Rattle.vm_slices.specs.Places.{member_of, members_of}
 use Rattle.vm_slices.proofs.Places.{seated_at, done_from, none_behind}
 use Rattle.vm_slices.proofs.rounds.are_done.Goals as goal

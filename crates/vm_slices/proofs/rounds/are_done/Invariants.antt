@@ -1,5 +1,5 @@
 use Rattle.std.proofs.Common.{◌≡◌, drop}
-use Rattle.vm_machine.specs.Rounds.{all_done}
+use Rattle.def_guests.specs.Rounds.{all_done}
 use Rattle.vm_slices.specs.Places.{members_of}
 use Rattle.vm_slices.proofs.rounds.are_done.Given as goal
 

@@ -1,7 +1,7 @@
 use Rattle.std.proofs.Common.{◌≡◌, ◌∙◌, ℕ, suc, ◌+◌, List, ◌++◌, length, ap, sym, subst, arith, rules}
 use Rattle.std.proofs.lemmas.List.{length-map}
 use Rattle.mb_instr.specs.declared.registers.Plain.{Plain}
-use Rattle.vm_machine.specs.Rounds.{Member, left_of_all}
+use Rattle.def_guests.specs.Rounds.{Member, left_of_all}
 use Rattle.vm_slices.specs.Counting.{AreCounted}
 use Rattle.vm_slices.specs.Places.{member_of, members_of, marks_at, with_turn}
 use Rattle.vm_slices.proofs.Places.{first_turned, first_marks, none_turned, one_more, all_turned, no_marks, more_marks, all_marks, counted_on, nothing_counted}

@@ -1,7 +1,7 @@
 use Rattle.std.proofs.Common.{◌≡◌}
 use Rattle.std.specs.Prelude.{All}
-use Rattle.vm_machine.specs.declared.limits.TheConstants.{MONITOR_BYTES}
-use Rattle.vm_machine.specs.Rounds.{left_of_all}
+use Rattle.def_guests.specs.declared.limits.TheConstants.{MONITOR_BYTES}
+use Rattle.def_guests.specs.Rounds.{left_of_all}
 use Rattle.vm_slices.specs.Counting.{AreCounted, RisesBy}
 use Rattle.vm_slices.specs.Members.{IsBounded}
 use Rattle.vm_slices.specs.Places.{members_of, StandFrom}

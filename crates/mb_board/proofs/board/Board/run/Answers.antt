@@ -1,8 +1,8 @@
 use Rattle.std.proofs.Common.{◌∙◌, ap, refl, subst}
-use Rattle.mb_machine.specs.Machine.{takes_steps}
+use Rattle.def_machine.specs.Machine.{takes_steps}
 use Rattle.mb_model.specs.declared.outcome.RunState.{RunState}
-use Rattle.vm_meaning.specs.Native.{Ran, user_run}
-use Rattle.vm_meaning.proofs.RunEnds.{run-keeps_steps}
+use Rattle.def_runs.specs.Native.{Ran, user_run}
+use Rattle.def_runs.proofs.RunEnds.{run-keeps_steps}
 use Rattle.mb_board.specs.declared.board.Board.TheInside.{Inside}
 use Rattle.mb_board.specs.State.{BoardState, run_from}
 use Rattle.mb_board.specs.Fits.{FitsAlong}

@@ -1,9 +1,9 @@
 use Rattle.std.proofs.Common.{◌∙◌, ap, sym, inl, inr}
 use Rattle.mb_instr.specs.declared.registers.Plain.{Plain}
 use Rattle.mb_instr.specs.Registers.{plain_of}
-use Rattle.mb_machine.specs.Machine.{Machine}
-use Rattle.mb_processor.specs.declared.Finish.{Finish}
-use Rattle.vm_meaning.specs.Native.{with_retired, with_step}
+use Rattle.def_machine.specs.Machine.{Machine}
+use Rattle.def_processor.specs.declared.Finish.{Finish}
+use Rattle.def_runs.specs.Native.{with_retired, with_step}
 use Rattle.mb_board.proofs.board.Core.count.Goals as goal
 
 pub returns-in-Went-clause-counted : goal.returns-in-Went-clause-counted

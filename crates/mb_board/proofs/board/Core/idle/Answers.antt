@@ -1,7 +1,7 @@
 use Rattle.std.proofs.Common.{◌∙◌, ◌+◌, [], ap, subst, sym}
 use Rattle.mb_model.specs.Keeping.{rule_a}
-use Rattle.mb_machine.specs.World.{World}
-use Rattle.mb_machine.specs.Machine.{run_of}
+use Rattle.def_machine.specs.World.{World}
+use Rattle.def_machine.specs.Machine.{run_of}
 use Rattle.mb_board.specs.contracts.board.Core.{the_view}
 use Rattle.mb_board.specs.Idle.{IsHeld}
 use Rattle.mb_board.proofs.Idle.{idle_run}

@@ -1,5 +1,5 @@
 use Rattle.std.proofs.Common.{◌∙◌, ◌+◌, ◌-◌, arith}
-use Rattle.vm_meaning.specs.Native.{about_to_run}
+use Rattle.def_runs.specs.Native.{about_to_run}
 use Rattle.mb_board.proofs.UserRuns.{ran_of, steps-on, step-off, no-step, fits-on, fits-off, fits-none}
 use Rattle.mb_board.proofs.board.Core.run.Goals as goal
 

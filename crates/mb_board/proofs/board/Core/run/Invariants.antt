@@ -1,6 +1,6 @@
 use Rattle.std.proofs.Common.{◌≡◌, ◌+◌, ◌-◌, ◌<◌, ◌^◌, length}
 use Rattle.mb_instr.specs.Registers.{plain_of}
-use Rattle.vm_meaning.specs.Native.{about_to_run, user_run}
+use Rattle.def_runs.specs.Native.{about_to_run, user_run}
 use Rattle.mb_board.specs.Fits.{FitsAlong}
 use Rattle.mb_board.specs.Spelling.{Spell}
 use Rattle.mb_board.proofs.board.Core.run.Given as goal

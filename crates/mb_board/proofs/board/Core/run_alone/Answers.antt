@@ -1,6 +1,6 @@
 use Rattle.std.proofs.Common.{rules, ◌≡◌, ◌∙◌, ◌-◌, [], false, sym, ap, arith}
 use Rattle.mb_model.specs.Keeping.{rule_a}
-use Rattle.mb_machine.specs.Machine.{Machine, run_of, takes_steps}
+use Rattle.def_machine.specs.Machine.{Machine, run_of, takes_steps}
 use Rattle.mb_board.proofs.Runs.{run_of-split, run_of-step, run_of-still, run_of-zero, stepped-by}
 use Rattle.mb_board.proofs.board.Core.run_alone.Goals as goal
 

@@ -1,7 +1,7 @@
 use Rattle.std.proofs.Common.{◌∙◌, ◌-◌, sym, ap, arith}
 use Rattle.mb_model.specs.Keeping.{rule_a}
-use Rattle.mb_machine.specs.Machine.{Machine, run_of}
-use Rattle.vm_meaning.proofs.Runs.{ended-is_free}
+use Rattle.def_machine.specs.Machine.{Machine, run_of}
+use Rattle.def_runs.proofs.Runs.{ended-is_free}
 use Rattle.mb_board.proofs.Runs.{run_of-split, run_of-still, run_of-zero}
 use Rattle.mb_board.proofs.board.Core.run_bare.Goals as goal
 

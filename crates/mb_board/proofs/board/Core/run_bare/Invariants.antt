@@ -1,6 +1,6 @@
 use Rattle.std.proofs.Common.{◌≡◌, ◌+◌, ◌<◌, ◌^◌, length, true}
 use Rattle.mb_model.specs.Keeping.{rule_a}
-use Rattle.mb_machine.specs.Machine.{run_of, takes_steps}
+use Rattle.def_machine.specs.Machine.{run_of, takes_steps}
 use Rattle.mb_board.specs.Arrivals.{IsNext}
 use Rattle.mb_board.proofs.board.Core.run_bare.Given as goal
 

@@ -1,6 +1,6 @@
 use Rattle.std.proofs.Common.{◌∙◌, ◌+◌, ℕ, ap, subst, arith}
 use Rattle.mb_model.specs.Keeping.{rule_a}
-use Rattle.mb_machine.specs.Machine.{Machine}
+use Rattle.def_machine.specs.Machine.{Machine}
 use Rattle.mb_board.specs.Arrivals.{IsNext}
 use Rattle.mb_board.proofs.Runs.{stepped-by}
 use Rattle.mb_board.proofs.Stretches.{none-between, run-to_entry}

@@ -1,5 +1,5 @@
 use Rattle.mb_model.specs.Keeping.{rule_a}
-use Rattle.mb_machine.specs.Bus.{fetching_of}
+use Rattle.def_machine.specs.Bus.{fetching_of}
 use Rattle.mb_board.proofs.AtOnce.{read_at_once}
 use Rattle.mb_board.proofs.bus_port.BoardBusPort.quick_fetch.Goals as goal
 

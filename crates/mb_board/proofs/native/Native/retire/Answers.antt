@@ -1,6 +1,6 @@
 use Rattle.std.proofs.Common.{◌∙◌, ◌+◌, ℕ, ap}
-use Rattle.vm_meaning.specs.Marks.{with_spelled}
-use Rattle.vm_meaning.specs.Native.{NativeState, with_retired}
+use Rattle.def_runs.specs.Marks.{with_spelled}
+use Rattle.def_runs.specs.Native.{NativeState, with_retired}
 use Rattle.mb_board.proofs.Spellings.{trail-by_spellings}
 use Rattle.mb_board.proofs.native.Native.retire.Goals as goal
 

@@ -1,7 +1,7 @@
 use Rattle.std.proofs.Common.{◌≡◌, ◌/◌, ◌<◌, ◌^◌, ◌∙◌, ap, sym, subst, arith}
 use Rattle.mb_model.specs.Pages.{page_of}
 use Rattle.mb_model.specs.declared.pages.TheConstants.{PAGE_SIZE}
-use Rattle.mb_machine.specs.declared.reference.Settled.TheVariants.{To}
+use Rattle.def_machine.specs.declared.reference.Settled.TheVariants.{To}
 use Rattle.mb_mmu.specs.State.{Translation, settled_by}
 use Rattle.mb_mmu.specs.MicroTlb.{entry_to}
 use Rattle.mb_mmu.proofs.ByPage.{page_true}

@@ -1,6 +1,6 @@
 use Rattle.std.proofs.Common.{◌≡◌, ◌∙◌, rules}
 use Rattle.std.specs.Prelude.{◌-◌, ◌&&◌}
-use Rattle.mb_machine.specs.Machine.{seen_machine}
+use Rattle.def_machine.specs.Machine.{seen_machine}
 use Rattle.mb_model.specs.Seen.{seen_of}
 use Rattle.mb_report.specs.Same.{same_seen}
 use Rattle.vm_slices.specs.Places.{members_in}

@@ -1,5 +1,5 @@
 use Rattle.std.proofs.Common.{◌∙◌, ap}
-use Rattle.mb_processor.specs.Step.{interrupt_mask}
+use Rattle.def_processor.specs.Step.{interrupt_mask}
 use Rattle.mb_model.specs.declared.processor.Cpu.{Cpu}
 use Rattle.mb_step.proofs.Registers.{mask_bits, same_mask}
 use Rattle.mb_step.proofs.processor.Processor.interrupt_mask.Goals as goal

@@ -6,7 +6,7 @@ use Rattle.mb_saved.specs.Saved.{IsLine}
 use Rattle.mb_walk.specs.Memory.{overwritten, with_contents}
 use Rattle.mb_board.specs.State.{BoardState}
 use Rattle.vm_shadow.specs.Shadows.{nothing}
-use Rattle.vm_machine.specs.Seats.{Seat, shadow_on, IsSeated}
+use Rattle.def_guests.specs.Seats.{Seat, shadow_on, IsSeated}
 use Rattle.vm_saved.specs.Begins.{beginning}
 use Rattle.vm_saved.specs.Saved.{contents_of, machine_of}
 use Rattle.vm_guest.specs.Memory.{contents_from, OnlyBetween}

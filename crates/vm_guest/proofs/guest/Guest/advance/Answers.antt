@@ -5,12 +5,12 @@ use Rattle.mb_instr.specs.Registers.{plain_of}
 use Rattle.mb_model.specs.declared.processor.Cpu.{Cpu}
 use Rattle.mb_devices.specs.Devices.{passed, IsNotDue}
 use Rattle.mb_board.specs.State.{ran_to}
-use Rattle.vm_machine.specs.declared.class.Class.{Class}
-use Rattle.vm_machine.specs.Bus.{guest_bus}
-use Rattle.vm_machine.specs.Seats.{Seat, Takes, guested_on}
-use Rattle.vm_machine.specs.Turns.{bus_side}
+use Rattle.def_guests.specs.declared.class.Class.{Class}
+use Rattle.def_guests.specs.Bus.{guest_bus}
+use Rattle.def_guests.specs.Seats.{Seat, Takes, guested_on}
+use Rattle.def_guests.specs.Turns.{bus_side}
 use Rattle.vm_guest.specs.Counting.{NoneDue}
-use Rattle.vm_step.specs.Taking.{retired_seat, settled}
+use Rattle.law_turns.specs.Taking.{retired_seat, settled}
 use Rattle.vm_guest.specs.Native.{guest_run}
 use Rattle.vm_guest.specs.declared.rest.Rest.TheVariants.{Whole}
 use Rattle.vm_guest.specs.Rests.{rest_in}

@@ -1,10 +1,10 @@
 use Rattle.std.proofs.Common.{◌≡◌, ◌∙◌, ℕ, ap, sym}
 use Rattle.mb_port.specs.Routine.{run}
-use Rattle.mb_processor.specs.Raise.{Stepped}
-use Rattle.vm_machine.specs.Guests.{Guest}
-use Rattle.vm_machine.specs.Bus.{guest_bus}
-use Rattle.vm_machine.specs.Turns.{bus_side}
-use Rattle.vm_machine.specs.Seats.{Seat, guested_on}
+use Rattle.def_processor.specs.Raise.{Stepped}
+use Rattle.def_guests.specs.Guests.{Guest}
+use Rattle.def_guests.specs.Bus.{guest_bus}
+use Rattle.def_guests.specs.Turns.{bus_side}
+use Rattle.def_guests.specs.Seats.{Seat, guested_on}
 use Rattle.vm_guest.specs.Rests.{rest_in}
 use Rattle.vm_guest.specs.Turns.{ended_at}
 use Rattle.vm_guest.specs.contracts.guest.Guest.{the_view}

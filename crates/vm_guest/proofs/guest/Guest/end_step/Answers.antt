@@ -1,12 +1,12 @@
 use Rattle.std.proofs.Common.{◌≡◌, ◌∙◌, ◌⊎◌, ℕ, suc, ◌+◌, ◌<◌, ◌≤◌, Bool, cond, Option, Some, None, IfSome, refl, ap, sym, subst, inl, inr, arith}
 use Rattle.mb_model.specs.Status.{space_of}
 use Rattle.mb_board.specs.State.{BoardState}
-use Rattle.vm_machine.specs.Guests.{Guest}
-use Rattle.vm_machine.specs.Refills.{refilled_at}
-use Rattle.vm_machine.specs.declared.limits.TheConstants.{MOST_REFILLS}
-use Rattle.vm_machine.specs.Turns.{Tally, steps_in, bus_side}
-use Rattle.vm_machine.specs.Seats.{Seat, guested_on}
-use Rattle.vm_step.specs.Reads.{read_by_frame}
+use Rattle.def_guests.specs.Guests.{Guest}
+use Rattle.def_guests.specs.Refills.{refilled_at}
+use Rattle.def_guests.specs.declared.limits.TheConstants.{MOST_REFILLS}
+use Rattle.def_guests.specs.Turns.{Tally, steps_in, bus_side}
+use Rattle.def_guests.specs.Seats.{Seat, guested_on}
+use Rattle.law_turns.specs.Reads.{read_by_frame}
 use Rattle.vm_guest.specs.Native.{IsFrameOf}
 use Rattle.vm_guest.specs.Stops.{BeginsAgain, IsStopped, Stopped}
 use Rattle.vm_guest.proofs.Stops.{again_of, lawful_of}

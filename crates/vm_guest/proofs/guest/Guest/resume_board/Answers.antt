@@ -2,7 +2,7 @@ use Rattle.std.proofs.Common.{◌≡◌, ◌∙◌, length, ap, subst}
 use Rattle.mb_instr.specs.Registers.{is_supervisor}
 use Rattle.mb_model.specs.declared.processor.Cpu.{Cpu}
 use Rattle.mb_board.specs.State.{BoardState}
-use Rattle.vm_step.proofs.Registers.{same_user}
+use Rattle.law_turns.proofs.Registers.{same_user}
 use Rattle.vm_guest.specs.Native.{native_cpu}
 use Rattle.vm_guest.proofs.guest.Guest.resume_board.Goals as goal
 

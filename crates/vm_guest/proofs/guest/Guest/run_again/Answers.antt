@@ -2,10 +2,10 @@ use Rattle.std.proofs.Common.{◌≡◌, ◌∙◌, ◌+◌, ℕ, suc, refl, ap,
 use Rattle.mb_instr.specs.Registers.{plain_of}
 use Rattle.mb_model.specs.declared.processor.Cpu.{Cpu}
 use Rattle.mb_board.specs.State.{ran_to}
-use Rattle.vm_meaning.specs.declared.RunEnd.TheVariants.{Exit}
-use Rattle.vm_meaning.specs.Native.{Ran}
-use Rattle.vm_machine.specs.Seats.{Seat, Takes}
-use Rattle.vm_step.specs.Taking.{settled}
+use Rattle.def_runs.specs.declared.RunEnd.TheVariants.{Exit}
+use Rattle.def_runs.specs.Native.{Ran}
+use Rattle.def_guests.specs.Seats.{Seat, Takes}
+use Rattle.law_turns.specs.Taking.{settled}
 use Rattle.vm_guest.specs.Stops.{BeginsAgain}
 use Rattle.vm_guest.specs.Turns.{scene}
 use Rattle.vm_guest.proofs.Runs.{MayRunOn, counted_native, never_gone}

@@ -1,7 +1,7 @@
 use Rattle.std.proofs.Common.{◌≡◌, ◌∙◌, ◌-◌, ℕ, false, ap, sym, subst, inl, inr, arith}
-use Rattle.mb_machine.specs.Machine.{takes_steps}
-use Rattle.vm_machine.specs.Seats.{Seat, Takes}
-use Rattle.vm_machine.proofs.Seated.{nothing_is_taken}
+use Rattle.def_machine.specs.Machine.{takes_steps}
+use Rattle.def_guests.specs.Seats.{Seat, Takes}
+use Rattle.def_guests.proofs.Seated.{nothing_is_taken}
 use Rattle.vm_guest.specs.Turns.{scene}
 use Rattle.vm_guest.proofs.Turning.{more_taken, taken_all}
 use Rattle.vm_guest.proofs.guest.Guest.take_steps.Goals as goal

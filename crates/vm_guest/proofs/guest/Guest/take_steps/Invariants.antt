@@ -1,5 +1,5 @@
 use Rattle.std.proofs.Common.{◌≡◌, ◌+◌, ◌*◌, ◌-◌, ◌≤◌}
-use Rattle.vm_machine.specs.Seats.{Takes}
+use Rattle.def_guests.specs.Seats.{Takes}
 use Rattle.vm_guest.specs.Turns.{scene}
 use Rattle.vm_guest.proofs.guest.Guest.take_steps.Given as goal
 

@@ -1,12 +1,12 @@
 use Rattle.std.proofs.Common.{◌≡◌, ◌∙◌, List, ℕ, true, false, ap, sym, subst, arith}
 use Rattle.mb_devices.specs.Devices.{restarted}
-use Rattle.mb_machine.specs.Machine.{reset_with, takes_steps}
+use Rattle.def_machine.specs.Machine.{reset_with, takes_steps}
 use Rattle.mb_board.specs.State.{board_at_reset}
-use Rattle.vm_machine.specs.Seats.{Seat, Takes}
+use Rattle.def_guests.specs.Seats.{Seat, Takes}
 use Rattle.vm_guest.specs.Turns.{scene}
 use Rattle.mb_model.specs.Keeping.{rule_a, rule_k}
-use Rattle.vm_machine.specs.Seats.{machine_on}
-use Rattle.vm_meaning.proofs.Runs.{ended-is_free}
+use Rattle.def_guests.specs.Seats.{machine_on}
+use Rattle.def_runs.proofs.Runs.{ended-is_free}
 use Rattle.vm_guest.proofs.Free.{goes_on_freely}
 use Rattle.vm_guest.proofs.Turning.{stays_taken, takes_machine}
 use Rattle.vm_guest.proofs.guest.Guest.turn.Goals as goal

@@ -4,8 +4,8 @@ use Rattle.mb_instr.specs.declared.registers.Plain.{Plain}
 use Rattle.mb_instr.specs.declared.registers.Regs.{Regs}
 use Rattle.mb_instr.specs.Registers.{with_plain}
 use Rattle.mb_model.specs.declared.processor.Cpu.{Cpu}
-use Rattle.mb_processor.specs.Raise.{by_its_end, cause_at}
-use Rattle.vm_meaning.specs.Finishes.{finish_trap_of}
+use Rattle.def_processor.specs.Raise.{by_its_end, cause_at}
+use Rattle.def_runs.specs.Finishes.{finish_trap_of}
 use Rattle.vm_guest.specs.declared.rest.Rest.{Rest}
 use Rattle.vm_guest.specs.Rests.{rest_in}
 use Rattle.vm_guest.proofs.rest.Rest.carry_out.Goals as goal

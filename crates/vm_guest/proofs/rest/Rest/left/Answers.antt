@@ -1,7 +1,7 @@
 use Rattle.std.proofs.Common.{subst}
 use Rattle.mb_frames.specs.declared.frame.Frame.{Frame}
-use Rattle.vm_machine.specs.Exits.{frame_access}
-use Rattle.vm_step.specs.Lawful.{LeavesLawful}
+use Rattle.def_guests.specs.Exits.{frame_access}
+use Rattle.law_turns.specs.Lawful.{LeavesLawful}
 use Rattle.vm_guest.proofs.Lefts.{few_done}
 use Rattle.vm_guest.proofs.rest.Rest.left.Goals as goal
 

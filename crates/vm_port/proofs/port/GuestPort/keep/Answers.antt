@@ -1,7 +1,7 @@
 use Rattle.std.proofs.Common.{◌∙◌, ap, sym, subst, refl}
 use Rattle.vm_shadow.specs.Mapped.{shadowed}
-use Rattle.vm_machine.specs.Seats.{own}
-use Rattle.vm_machine.specs.Bus.{without_kept}
+use Rattle.def_guests.specs.Seats.{own}
+use Rattle.def_guests.specs.Bus.{without_kept}
 use Rattle.vm_port.specs.Own.{IsPlaced}
 use Rattle.vm_port.specs.Parts.{tables_of}
 use Rattle.vm_port.proofs.Frames.{around}

@@ -3,7 +3,7 @@ use Rattle.std.specs.Prelude.{slice_get, Some, None}
 use Rattle.std.proofs.lemmas.Option.{slice_get_within}
 use Rattle.mb_model.specs.declared.kept.Kept.{Kept}
 use Rattle.mb_model.specs.Keeping.{list_of}
-use Rattle.mb_machine.specs.World.{World}
+use Rattle.def_machine.specs.World.{World}
 use Rattle.vm_port.specs.Parts.{tables_of}
 use Rattle.vm_port.proofs.Covered.{next_dropped, all_dropped}
 use Rattle.vm_port.proofs.port.GuestPort.leave_all.Goals as goal

@@ -1,6 +1,6 @@
 use Rattle.std.proofs.Common.{◌≡◌, ◌-◌, ◌≤◌, drop, length}
 use Rattle.vm_port.specs.Parts.{world_of, beyond_of, tables_of}
-use Rattle.vm_machine.specs.Bus.{dropped_all}
+use Rattle.def_guests.specs.Bus.{dropped_all}
 use Rattle.vm_port.proofs.port.GuestPort.leave_all.Given as goal
 
 abbrev pub invariant-loop-k : goal.invariant-loop-k

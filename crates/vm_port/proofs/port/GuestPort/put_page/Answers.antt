@@ -2,7 +2,7 @@ use Rattle.std.proofs.Common.{◌≡◌, ◌∙◌, ◌+◌, ap, sym, subst, ref
 use Rattle.mb_model.specs.Pages.{page_of}
 use Rattle.vm_shadow.specs.Shadows.{with_page_put}
 use Rattle.vm_shadow.specs.Mapped.{shadowed}
-use Rattle.vm_machine.specs.Seats.{own}
+use Rattle.def_guests.specs.Seats.{own}
 use Rattle.vm_port.specs.Own.{IsPlaced}
 use Rattle.vm_port.proofs.Frames.{around}
 use Rattle.vm_port.proofs.Owns.{placed_filled, own_filled}

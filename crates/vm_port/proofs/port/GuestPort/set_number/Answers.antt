@@ -4,7 +4,7 @@ use Rattle.mb_walk.proofs.MemoryLemmas.{length-with_number}
 use Rattle.mb_walk.proofs.Parts.{length-part, part-with_number, take-with_number, drop-with_number}
 use Rattle.vm_shadow.specs.Mapped.{shadowed}
 use Rattle.vm_shadow.specs.declared.area.TheConstants.{AREA_BYTES}
-use Rattle.vm_machine.specs.Seats.{own}
+use Rattle.def_guests.specs.Seats.{own}
 use Rattle.vm_port.specs.Own.{IsPlaced}
 use Rattle.vm_port.proofs.Frames.{maps_stay, shadow_stays}
 use Rattle.vm_port.proofs.port.GuestPort.set_number.Goals as goal

@@ -1,6 +1,6 @@
 use Rattle.std.proofs.Common.{◌≡◌, ◌∙◌, ◌-◌, ◌<◌, Some, length, ap, sym, arith}
 use Rattle.std.proofs.lemmas.List.{length-map}
-use Rattle.vm_machine.specs.Rounds.{Member}
+use Rattle.def_guests.specs.Rounds.{Member}
 use Rattle.vm_slices.specs.Places.{HostState, member_of, members_in}
 use Rattle.vm_slices.specs.Members.{tallies_of, numbered}
 use Rattle.vm_slices.proofs.Places.{member_at}

@@ -1,6 +1,6 @@
 use Rattle.std.proofs.Common.{◌≡◌, ◌∙◌, ◌-◌, ◌<◌, Some, length, ap, sym, arith}
 use Rattle.std.proofs.lemmas.List.{length-map}
-use Rattle.vm_machine.specs.Rounds.{Member}
+use Rattle.def_guests.specs.Rounds.{Member}
 use Rattle.vm_slices.specs.Places.{HostState, members_in}
 use Rattle.vm_slices.specs.Members.{devices_of, numbered}
 use Rattle.vm_slices.specs.Places.{member_of}

@@ -2,7 +2,7 @@ use Rattle.std.proofs.Common.{◌≡◌, ◌∙◌, ◌-◌, ◌<◌, Some, leng
 use Rattle.std.specs.Prelude.{slice_get}
 use Rattle.mb_model.specs.Keeping.{list_of}
 use Rattle.std.proofs.lemmas.List.{length-map}
-use Rattle.vm_machine.specs.Rounds.{Member}
+use Rattle.def_guests.specs.Rounds.{Member}
 use Rattle.vm_slices.specs.Adopting.{kept_at}
 use Rattle.vm_slices.specs.Members.{numbered}
 use Rattle.vm_slices.specs.Places.{HostState, member_of, members_in}

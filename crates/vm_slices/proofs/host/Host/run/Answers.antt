@@ -1,5 +1,5 @@
 use Rattle.std.proofs.Common.{◌≡◌, ◌∙◌, ℕ, ◌<◌, List, true, false, refl, ap, sym, subst, arith}
-use Rattle.vm_machine.specs.Rounds.{Member, all_done, left_of_all, marks_after, members_after}
+use Rattle.def_guests.specs.Rounds.{Member, all_done, left_of_all, marks_after, members_after}
 use Rattle.vm_slices.specs.Counting.{AreCounted}
 use Rattle.vm_slices.specs.Places.{HostState, members_in}
 use Rattle.vm_slices.specs.Members.{machines_of, tallies_of}

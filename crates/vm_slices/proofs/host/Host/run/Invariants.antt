@@ -1,5 +1,5 @@
 use Rattle.std.proofs.Common.{◌≡◌, true}
-use Rattle.vm_machine.specs.Rounds.{all_done, left_of_all}
+use Rattle.def_guests.specs.Rounds.{all_done, left_of_all}
 use Rattle.vm_slices.specs.Places.{members_in}
 use Rattle.vm_slices.proofs.RoundLaws.{SoFar}
 use Rattle.vm_slices.proofs.host.Host.run.Given as goal

@@ -1,7 +1,7 @@
 use Rattle.std.proofs.Common.{◌≡◌, ◌∙◌, [], List, drop, length, map, refl, ap, subst, arith}
 use Rattle.std.proofs.lemmas.List.{drop_all}
 use Rattle.mb_script.specs.declared.turn.Turn.{Turn}
-use Rattle.vm_machine.specs.Rounds.{Member, left_of_all}
+use Rattle.def_guests.specs.Rounds.{Member, left_of_all}
 use Rattle.vm_slices.specs.Members.{machine_at_end, machines_of, tally_at_end}
 use Rattle.vm_slices.specs.Orders.{each_given}
 use Rattle.vm_slices.specs.Places.{members_in}

@@ -1,6 +1,6 @@
 use Rattle.std.proofs.Common.{◌∙◌, subst, sym}
 use Rattle.mb_srec.specs.Image.{contents_of}
-use Rattle.vm_machine.specs.Seats.{Seat, IsSeated}
+use Rattle.def_guests.specs.Seats.{Seat, IsSeated}
 use Rattle.vm_slices.proofs.Attached.{disk_seated, opens, starts_without}
 use Rattle.vm_slices.proofs.host_guest.HostGuest.prepare.Goals as goal
 

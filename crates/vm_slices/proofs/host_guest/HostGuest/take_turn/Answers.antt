@@ -1,5 +1,5 @@
 use Rattle.std.proofs.Common.{◌≡◌, ◌+◌, ◌≤◌, min, sym, subst, arith}
-use Rattle.vm_machine.specs.Rounds.{Member, left}
+use Rattle.def_guests.specs.Rounds.{Member, left}
 use Rattle.vm_slices.specs.Places.{member_of}
 use Rattle.vm_slices.proofs.Turns.{HasTaken, member_taken, turn_left}
 use Rattle.vm_slices.proofs.host_guest.HostGuest.take_turn.Goals as goal

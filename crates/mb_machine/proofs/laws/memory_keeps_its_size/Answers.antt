@@ -1,8 +1,0 @@
-use Rattle.mb_machine.proofs.Beneath as beneath
-use Rattle.mb_machine.proofs.laws.memory_keeps_its_size.Goals as goal
-
-pub returns-clause-calls : goal.returns-clause-calls
-returns-clause-calls c = beneath.calls_leave_the_size
-
-pub returns-clause-runs : goal.returns-clause-runs
-returns-clause-runs c = beneath.runs_leave_the_size

@@ -1,5 +1,0 @@
-use Rattle.mb_machine.proofs.Bytes.{bus-bytes}
-use Rattle.mb_machine.proofs.laws.memory_stays_bytes.Goals as goal
-
-pub returns : goal.returns
-returns c = bus-bytes

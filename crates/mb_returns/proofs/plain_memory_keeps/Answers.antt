@@ -1,5 +1,0 @@
-use Rattle.mb_returns.proofs.Plain as plain
-use Rattle.mb_returns.proofs.plain_memory_keeps.Goals as goal
-
-pub returns : goal.returns
-returns c = plain.plain_memory_keeps

@@ -1,5 +1,0 @@
-use Rattle.mb_tells.proofs.Over.{resumed_over}
-use Rattle.mb_tells.proofs.rests_resume.Goals as goal
-
-pub returns : goal.returns
-returns g c = λ bus s whole rest h. resumed_over bus s h

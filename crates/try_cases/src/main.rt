@@ -1,0 +1,102 @@
+//! Runs single instructions, and a few after one another, that two other machines ran, and compares all that those show
+//! afterwards.
+//!
+//! A case is a line of `plain.txt`, `traps.txt` or `system.txt`, and each passes exactly where the machine of the
+//! definition shows what the case says: every register, all of RAM, the console, the queue, the steps and the state.
+//! Each case that does not pass is told, with what is first found to be another, and so is each line that is no case.
+#![tactic(auto)]
+
+ghost use Rattle.std.specs.Prelude.{◌≤◌, length, IfOk};
+ghost use Rattle.try_cases.specs.Passed.{Passed};
+
+mod bench;
+mod case;
+mod chunk;
+mod difference;
+mod fault;
+mod fields;
+mod file;
+mod head;
+mod machine;
+mod memory;
+mod reading;
+mod registers;
+mod single;
+mod system;
+
+use anyhow::{anyhow, ensure};
+use bench::Bench;
+use case::Case;
+use difference::Difference;
+use file::read_file;
+use head::Form;
+use std::rt::Files;
+use std::{fs, io};
+
+/// Tells a case that does not pass.
+fn tell(rt: &impl Print, file: &str, case: &Case, found: Difference) -> io::Result<()> {
+    println!(rt; "{file} {case}: {found}")
+}
+
+/// Runs cases one after the other, and tells those that do not pass: how many pass.
+fn run_cases(rt: &impl Print, file: &str, bench: &mut Bench, cases: &[Case]) -> io::Result<usize>
+    ensures passed { IfOk result (Passed cases.now) }
+    ensures among { IfOk result (λ passed. passed ≤ length cases.now) }
+{
+    let mut passed = 0;
+    for case in cases {
+        match bench.try_case(case) {
+            None => passed += 1,
+            Some(found) => tell(rt, file, case, found)?,
+        }
+    }
+    Ok(passed)
+}
+
+/// How many of a file's cases pass, and how many of its lines do not: cases, and lines that are none.
+#[derive(Drop)]
+struct Tally {
+    passed: usize,
+    failed: usize,
+}
+
+impl Tally {
+    /// Of two files.
+    fn and(self, other: Tally) -> Tally {
+        Tally {
+            passed: self.passed.saturating_add(other.passed),
+            failed: self.failed.saturating_add(other.failed),
+        }
+    }
+}
+
+/// Runs the cases of a file, and tells what does not pass.
+fn run_file(
+    rt: &(impl Files + Print + AllocGlobal),
+    form: Form,
+    name: &str,
+    path: &str,
+    bench: &mut Bench,
+) -> anyhow::Result<Tally> {
+    let text = fs::read(rt, path)?;
+    ensure!(text.len() < 1 << 31, "{path} is too long");
+    let file = read_file(rt.alloc(), form, &text)?;
+    for line in &file.bad {
+        println!(rt; "{name} line {}: {}", line.number, line.fault)?;
+    }
+    let passed = run_cases(rt, name, bench, &file.cases)?;
+    println!(rt; "{name}: {passed} passed")?;
+    let failed = (file.cases.len() - passed).saturating_add(file.bad.len());
+    Ok(Tally { passed, failed })
+}
+
+fn main(rt: HostRuntime) -> anyhow::Result<()> {
+    let mut bench = Bench::new(rt.alloc()).map_err(|_| anyhow!("memory ran out"))?;
+    let plain = run_file(&rt, Form::Single, "plain", "plain.txt", &mut bench)?;
+    let traps = run_file(&rt, Form::Single, "traps", "traps.txt", &mut bench)?;
+    let system = run_file(&rt, Form::System, "system", "system.txt", &mut bench)?;
+    let all = plain.and(traps).and(system);
+    println!(rt; "{} passed", all.passed)?;
+    ensure!(all.failed == 0, "{} failed", all.failed);
+    Ok(())
+}

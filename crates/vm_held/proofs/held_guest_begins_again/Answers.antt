@@ -1,5 +1,0 @@
-use Rattle.vm_held.proofs.Refills.{attempts_begin_again}
-use Rattle.vm_held.proofs.held_guest_begins_again.Goals as goal
-
-pub returns : goal.returns
-returns c = attempts_begin_again

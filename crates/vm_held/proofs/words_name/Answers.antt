@@ -1,5 +1,0 @@
-use Rattle.vm_held.proofs.Names as proved
-use Rattle.vm_held.proofs.words_name.Goals as goal
-
-pub returns : goal.returns
-returns c = proved.words_name

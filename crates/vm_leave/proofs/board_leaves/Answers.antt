@@ -1,8 +1,0 @@
-use Rattle.vm_leave.proofs.Exits as exits
-use Rattle.vm_leave.proofs.board_leaves.Goals as goal
-
-pub returns-clause-enters : goal.returns-clause-enters
-returns-clause-enters c = exits.board_leaves
-
-pub returns-clause-ready : goal.returns-clause-ready
-returns-clause-ready c = exits.frames_leave_ready

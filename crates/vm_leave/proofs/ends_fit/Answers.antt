@@ -1,5 +1,0 @@
-use Rattle.vm_leave.proofs.FitEnds as fits
-use Rattle.vm_leave.proofs.ends_fit.Goals as goal
-
-pub returns : goal.returns
-returns c = fits.ends_fit

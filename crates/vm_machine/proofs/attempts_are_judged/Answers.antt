@@ -1,8 +1,0 @@
-use Rattle.vm_machine.proofs.Judged.{allowed_accesses_are_still, attempts_are_judged}
-use Rattle.vm_machine.proofs.attempts_are_judged.Goals as goal
-
-pub returns-clause-still : goal.returns-clause-still
-returns-clause-still c = allowed_accesses_are_still
-
-pub returns-clause-judged : goal.returns-clause-judged
-returns-clause-judged c = attempts_are_judged

@@ -1,5 +1,0 @@
-use Rattle.vm_machine.proofs.ByRule.{trees_by_rule}
-use Rattle.vm_machine.proofs.runs_are_by_rule.Goals as goal
-
-pub returns : goal.returns
-returns g c = λ m h. trees_by_rule m h

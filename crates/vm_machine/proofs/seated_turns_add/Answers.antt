@@ -1,8 +1,0 @@
-use Rattle.vm_machine.proofs.Seated.{nothing_is_taken, takes_add}
-use Rattle.vm_machine.proofs.seated_turns_add.Goals as goal
-
-pub returns-clause-none : goal.returns-clause-none
-returns-clause-none c = nothing_is_taken
-
-pub returns-clause-add : goal.returns-clause-add
-returns-clause-add c = takes_add
