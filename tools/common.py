@@ -83,18 +83,24 @@ class Machine:
 
     def __init__(self, arguments):
         self.program = arguments.mbx
-        self.words = [arguments.image, "--ram", str(arguments.ram)]
-        if arguments.disk is not None:
-            self.words += ["--disk", str(arguments.disk)]
-        if arguments.contents is not None:
-            self.words += ["--contents", arguments.contents]
+        self.image = arguments.image
+        self.ram = arguments.ram
+        self.blocks = arguments.disk
+        self.contents = arguments.contents
         self.was_run = False
 
     def run(self, steps, script=None, waiting=None):
-        """The text of the outcome after so many steps. `waiting` is called with the seconds that a long run takes."""
-        words = [self.program, "bare", "--steps", str(steps), *self.words, *(["--script", script] if script else [])]
+        """The text of the outcome after so many steps."""
+        words = ["bare", self.image, "--ram", str(self.ram), "--steps", str(steps)]
+        for name, value in ("disk", self.blocks), ("contents", self.contents), ("script", script):
+            if value is not None:
+                words += [f"--{name}", str(value)]
+        return self.run_words(words, waiting)
+
+    def run_words(self, words, waiting=None):
+        """What a command prints. `waiting` is called with the seconds that a long run takes."""
         # What a program says at each run is said once, and at once, since the first run may build the program.
-        with start(words, stderr=subprocess.PIPE if self.was_run else None) as child:
+        with start([self.program, *words], stderr=subprocess.PIPE if self.was_run else None) as child:
             seconds = 0
             while True:
                 try:

@@ -9,7 +9,7 @@ use mb_srec::RecordWhy;
 pub enum Reason {
     /// It is no record of an image, or stands where it may not.
     Record(RecordWhy),
-    /// It is no line of a script or of a session file.
+    /// It is no line of a script, of a session file or of a debugger's commands.
     Words(LineWhy),
     /// It is no line of a source, or what it says cannot be assembled.
     Source(AsmKind),
@@ -26,6 +26,8 @@ pub enum FileWhy {
     Outside { at: u32 },
     /// No record ends the image.
     NoEnd,
+    /// The session has no guest of this number.
+    NoGuest { guest: u8 },
 }
 
 /// Why a file was not read.

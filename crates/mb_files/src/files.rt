@@ -1,12 +1,13 @@
 //! Files read whole, each by what it is.
 
-ghost use Rattle.std.specs.Prelude.{◌≡◌, All, IfOk, []};
+ghost use Rattle.std.specs.Prelude.{◌≡◌, ◌≤◌, All, IfOk, [], length};
 ghost use Rattle.mb_srec.specs.Image.{IsAddressed, LiesBelow, contents_of};
 ghost use Rattle.mb_script.specs.Answers.{plan_said};
 ghost use Rattle.mb_script.specs.Plan.{IsInRange};
 ghost use Rattle.mb_words.specs.Values.{file_said};
 ghost use Rattle.mb_files.specs.Reading.{file, if_named, images, scripts, sessions};
 ghost use Rattle.mb_files.specs.Sources.{sources};
+ghost use Rattle.mb_files.specs.Debugged.{commands, sessions_with};
 ghost use Rattle.mb_files.specs.Shelves.{shelf_seen};
 ghost use Rattle.mb_files.specs.Reads.{IsRead, LoadsFile, fault_by};
 
@@ -17,8 +18,9 @@ use mb_outside::{LoadFault, Shelf, load};
 use mb_script::{Script, SessionPlan, read_script, read_session};
 use mb_srec::{Image, read_image};
 use std::alloc::Global;
+use vm_debug::{Commands, read_commands};
 
-/// The most bytes of an image, of a script, of a session file and of a source.
+/// The most bytes of an image, of a script, of a session file, of a source and of a debugger's commands.
 const MOST_BYTES: usize = 67_108_864;
 
 /// A file that was read whole.
@@ -138,6 +140,44 @@ pub fn session_file<F: Shelf>(
     let file = load_file(alloc, shelf, name, MOST_BYTES)?;
     match read_session(alloc, &file.bytes) {
         Ok(plan) => Ok(plan),
+        Err(fault) => Err(file.fault(Unheld::from(fault))),
+    }
+}
+
+/// Reads the plan of a session file that has a guest of this number.
+pub fn session_file_with<F: Shelf>(
+    alloc: Global,
+    shelf: &mut F,
+    name: &str,
+    guest: u8,
+) -> Result<SessionPlan, FileFault>
+    ensures read { IsRead (file (sessions_with guest) name.now) plan_said
+        (shelf_seen F.Shelf shelf.old) (shelf_seen F.Shelf shelf.new) result }
+    ensures in_range { IfOk result (λ plan. IsInRange (plan_said plan)) }
+    ensures guest { IfOk result (λ plan. guest ≤ length (plan_said plan).guests) }
+{
+    let file = load_file(alloc, shelf, name, MOST_BYTES)?;
+    match read_session(alloc, &file.bytes) {
+        Ok(plan) if plan.guests().len() < usize::from(guest) => {
+            Err(file.fault(Unheld::Why(FileWhy::NoGuest { guest })))
+        }
+        Ok(plan) => Ok(plan),
+        Err(fault) => Err(file.fault(Unheld::from(fault))),
+    }
+}
+
+/// Reads the commands of a debugger in a file.
+pub fn commands_file<F: Shelf>(
+    alloc: Global,
+    shelf: &mut F,
+    name: &str,
+) -> Result<Commands, FileFault>
+    ensures { IsRead (file commands name.now) (λ commands. commands)
+        (shelf_seen F.Shelf shelf.old) (shelf_seen F.Shelf shelf.new) result }
+{
+    let file = load_file(alloc, shelf, name, MOST_BYTES)?;
+    match read_commands(alloc, &file.bytes) {
+        Ok(commands) => Ok(commands),
         Err(fault) => Err(file.fault(Unheld::from(fault))),
     }
 }

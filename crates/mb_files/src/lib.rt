@@ -14,5 +14,8 @@ mod laws;
 mod unheld;
 
 pub use fault::{FileFault, FileWhy, Reason};
-pub use files::{image_file, image_if_named, script_if_named, session_file, source_file};
+pub use files::{
+    commands_file, image_file, image_if_named, script_if_named, session_file, session_file_with,
+    source_file,
+};
 pub use laws::readings_follow;

@@ -1,17 +1,20 @@
 -- What is promised of a run follows from its end.
-use Rattle.std.proofs.Common.{◌≡◌, ◌∙◌, ℕ, ◌*◌, List, refl, ap, subst, Option, Some, None, Ok, Result, Err, inl, inr}
+use Rattle.std.proofs.Common.{◌≡◌, ◌∙◌, ℕ, ◌*◌, List, refl, sym, ap, subst, Option, Some, None, Ok, Result, Err, inl, inr}
 use Rattle.std.specs.Prelude.{IfSome, replicate, slice_index_or}
 use Rattle.mb_outside.specs.Prints.{Prints}
 use Rattle.mb_model.specs.Keeping.{rule_k}
 use Rattle.mb_walk.specs.Memory.{with_contents}
 use Rattle.def_machine.specs.Machine.{opening_devices}
 use Rattle.def_runs.proofs.Runs.{run-from_reset}
-use Rattle.vm_guest.specs.Session.{GuestAtStart}
+use Rattle.vm_guest.specs.Session.{GuestAtStart, SessionAtStart}
 use Rattle.vm_slices.specs.Fit.{Fits}
-use Rattle.mb_words.specs.Words.{Asked, Text, bare, assembly, disassembly, hosting, comparison, generation, asked_by}
+use Rattle.vm_slices.specs.Members.{numbered}
+use Rattle.vm_debug.specs.declared.command.Command.{Command}
+use Rattle.mb_words.specs.Words.{Asked, Debugged, Text, bare, assembly, disassembly, hosting, comparison, generation, debugging, asked_by}
 use Rattle.mb_files.specs.Reading.{Told, Reading, gives, ◌>>=◌, end_of, file, images}
 use Rattle.mb_files.specs.Sources.{sources}
 use Rattle.mb_program.specs.Files.{Ordered, machine_files, session_files}
+use Rattle.mb_program.specs.Debugs.{debug_shown, debugged_files, debugged_shown}
 use Rattle.mb_program.specs.Headline.{Headline, IsFree, alone}
 use Rattle.mb_program.specs.Answers.{Answer, Shown, shows, oversizes, answer_to, if_it_fits}
 use Rattle.mb_program.specs.Answers.{bare_shown, asm_shown, dis_shown, host_shown, compare_shown, gen_shown}
@@ -23,6 +26,7 @@ use Rattle.mb_files.specs.declared.fault.FileWhy.{FileWhy}
 use Rattle.mb_program.specs.declared.end.End.{End}
 use Rattle.mb_files.proofs.ReadingLemmas.{end_then}
 use Rattle.mb_program.proofs.ShowLemmas.{it_fits}
+use Rattle.mb_program.proofs.DebugLemmas.{chosen}
 use Rattle.mb_program.proofs.EndLemmas.{cut_so, differs_so, done_so, gives_so, memory_line, oversize_always, oversize_so, refused_always, refused_so, stands, status_known, unread_never, unread_so, words_always, words_line, words_so}
 use Rattle.mb_program.proofs.TidyLemmas.{tidy_so}
 
@@ -55,6 +59,17 @@ compared_so asked a diag status given name s is gets fits = given (comparison na
     (known_shown a (session_files name) (λ (r : Ordered). if_it_fits r.session (compare_shown r)) s (compare_shown s) gets
     (it_fits s.session (compare_shown s) fits))
 
+debugged_so : (asked : Option Asked) (a : Around) (diag : Diag) (status : ℕ) → GivenSo asked a diag status → (d : Debugged)
+    (session : SessionAtStart) (orders : List Command) (guest : GuestAtStart) → asked ≡ Some (debugging d)
+    → Gets a (debugged_files d) (session, orders) → numbered d.guest session.guests ≡ Some guest → Fits session
+    → Gives a diag (debugged_shown d.guest guest orders) status
+debugged_so asked a diag status given d session orders guest is gets there fits =
+    given (debugging d) (debugged_shown d.guest guest orders) is
+    (known_shown a (debugged_files d) (λ (s, list). if_it_fits s (debug_shown d.guest s.guests list)) (session, orders)
+    (debugged_shown d.guest guest orders) gets
+    (it_fits session (debug_shown d.guest session.guests orders) fits
+    ∙ ap (λ (shown : Shown). shows shown) (sym (chosen d.guest session.guests guest orders there))))
+
 pub causes_so : (asked : Option Asked) (a : Around) (diag : Diag) (end : End) → Ends asked a end → IsPut diag (line_of end)
     → (HostsNothing asked → a.native_after ≡ a.native) → Causes asked a diag (status_of end)
 causes_so asked a diag end h line unhosted =
@@ -71,6 +86,7 @@ causes_so asked a diag end h line unhosted =
       hosted = hosted_so asked a diag (status_of end) given;
       compared = compared_so asked a diag (status_of end) given;
       tidy = λ name s is gets fits. tidy_so a diag s (status_of end) (compared_so asked a diag (status_of end) given name s is gets fits);
+      debugged = debugged_so asked a diag (status_of end) given;
       generated = λ workload is. given (generation workload) (gen_shown workload) is refl;
       complete = given;
       known = status_known end;

@@ -4,6 +4,7 @@ pub mod GuestLemmas
 pub mod MachineLemmas
 pub mod RunLemmas
 pub mod ShowLemmas
+pub mod DebugLemmas
 pub mod CompareLemmas
 pub mod SummaryLemmas
 pub mod EndLemmas

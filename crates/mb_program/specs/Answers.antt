@@ -17,31 +17,21 @@ use Rattle.vm_guest.specs.Session.{GuestAtStart, SessionAtStart}
 use Rattle.vm_slices.specs.Fit.{need_of}
 use Rattle.mb_gen.specs.Sessions.{generated}
 use Rattle.mb_words.specs.Words.{Text, Run, Excerpt, Workload}
-use Rattle.mb_words.specs.Words.{Asked, bare, assembly, disassembly, hosting, comparison, generation}
+use Rattle.mb_words.specs.Words.{Asked, bare, assembly, disassembly, hosting, comparison, generation, debugging}
 use Rattle.mb_files.specs.Reading.{Reading, gives, ◌>>=◌, file, images}
 use Rattle.mb_files.specs.Sources.{sources}
 use Rattle.mb_program.specs.Files.{Ordered, machine_files, session_files}
 use Rattle.mb_program.specs.Headline.{alone, machine_text, texts_from}
-use Rattle.mb_program.specs.Direct.{counts_line, tallies_by}
+use Rattle.mb_program.specs.Direct.{counts_line, steps_of_all, tallies_by}
+pub use Rattle.mb_program.specs.Shown.{Shown, plain}
+use Rattle.mb_program.specs.Debugs.{debug_shown, debugged_files}
 
 -- ---- answers
-
--- A text for out, what is said on diag beside it, and the status; and the session whose guests have run under the
--- monitor when it is shown, where there is one.
-pub record Shown : Type 0 where
-  pub text : Text
-  pub lines : Text
-  pub status : ℕ
-  pub session : Option Ordered
 
 -- A command shows something, or its guests need more bytes than their board has.
 pub data Answer : Type 0 where
   shows : Shown → Answer
   oversizes : (need have : ℕ) → Answer
-
--- a text, and nothing on diag; no board runs in user mode
-abbrev pub plain : Text → Shown
-plain text = record { text = text; lines = []; status = 0; session = None }
 
 -- ---- bare
 
@@ -78,7 +68,7 @@ host_shown s = record {
   text = texts_from machine_text 1 (map (alone rule_k) s.session.guests);
   lines = texts_from counts_line 1 (tallies_by s.session.guests);
   status = 0;
-  session = Some s;
+  steps = Some (steps_of_all s);
 }
 
 -- ---- compare
@@ -106,7 +96,7 @@ compare_shown s = record {
   text = texts_from compared_text 1 (map is_same s.session.guests);
   lines = [];
   status = if list_all is_same s.session.guests then 0 else 1;
-  session = Some s;
+  steps = Some (steps_of_all s);
 }
 
 -- ---- gen
@@ -135,7 +125,7 @@ gen_shown workload = record {
       (map (λ (guest : GuestAtStart). seen_machine (alone rule_k guest)) (made_session workload).session.guests);
   lines = [];
   status = 0;
-  session = Some (made_session workload);
+  steps = Some (steps_of_all (made_session workload));
 }
 
 -- ---- every command
@@ -162,4 +152,7 @@ answer_to (hosting name) = do
 answer_to (comparison name) = do
   s ← session_files name
   gives (if_it_fits s.session (compare_shown s))
+answer_to (debugging d) = do
+  (session, orders) ← debugged_files d
+  gives (if_it_fits session (debug_shown d.guest session.guests orders))
 answer_to (generation workload) = gives (shows (gen_shown workload))

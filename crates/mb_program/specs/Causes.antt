@@ -1,12 +1,15 @@
 -- What each command promises, and what each status says of its cause.
 use Rattle.std.specs.Prelude.{◌≡◌, ◌⊎◌, ◌<◌, ◌*◌, ⊤, ℕ, true, codes, Option, Some, None, IfSome, is_some}
-use Rattle.std.specs.Prelude.{Result, Ok, Err}
+use Rattle.std.specs.Prelude.{List, Result, Ok, Err}
 use Rattle.mb_outside.specs.Counts.{Rose}
 use Rattle.mb_outside.specs.Sink.{Grows}
 use Rattle.mb_walk.specs.Memory.{Contents}
 use Rattle.vm_slices.specs.Fit.{Fits}
-use Rattle.mb_words.specs.Words.{Text, Asked, Run, Excerpt, Workload}
-use Rattle.mb_words.specs.Words.{bare, assembly, disassembly, hosting, comparison, generation}
+use Rattle.vm_slices.specs.Members.{numbered}
+use Rattle.vm_guest.specs.Session.{GuestAtStart, SessionAtStart}
+use Rattle.vm_debug.specs.declared.command.Command.{Command}
+use Rattle.mb_words.specs.Words.{Text, Asked, Run, Excerpt, Workload, Debugged}
+use Rattle.mb_words.specs.Words.{bare, assembly, disassembly, hosting, comparison, generation, debugging}
 use Rattle.def_machine.specs.Machine.{Entries, Opening}
 use Rattle.mb_files.specs.Reading.{Told, Reading, end_of, file, images}
 use Rattle.mb_files.specs.Comes.{Comes, Names}
@@ -16,6 +19,7 @@ use Rattle.mb_files.specs.declared.fault.FileWhy.{FileWhy}
 use Rattle.mb_program.specs.Files.{Ordered, machine_files, session_files}
 use Rattle.mb_program.specs.Answers.{Answer, Shown, shows, oversizes, answer_to}
 use Rattle.mb_program.specs.Answers.{bare_shown, asm_shown, dis_shown, host_shown, compare_shown, gen_shown}
+use Rattle.mb_program.specs.Debugs.{debugged_files, debugged_shown}
 use Rattle.mb_program.specs.Around.{Around, Diag, Gains, GainsPart, IsPut}
 use Rattle.mb_program.specs.Direct.{IsCounted}
 use Rattle.mb_program.specs.Lines.{named, oversize_line, why_text}
@@ -34,7 +38,7 @@ pub record Gives (a : Around) (diag : Diag) (shown : Shown) (status : ℕ) : Typ
   pub said : IsDone status → IsPut diag shown.lines
   -- and where its guests have run under the monitor, the board has carried out each retired step, from the guest's own
   -- registers to the guest's own registers, and no other.
-  pub counted : IsDone status → IsCounted shown.session a.native a.native_after
+  pub counted : IsDone status → IsCounted shown.steps a.native a.native_after
   -- It is done, with this status, unless the shelf failed, out failed, or memory ran out.
   pub ended : (status ≡ shown.status) ⊎ (status ≡ 5) ⊎ (status ≡ 6) ⊎ (status ≡ 7)
 
@@ -72,7 +76,7 @@ pub record Written (asked : Option Asked) (a : Around) (diag : Diag) (status : �
   pub comes : AsksFor asked a (Ok (shows shown))
   pub status_is : shown.status ≡ status
   pub gained : Gains a.out a.out_after shown.text
-  pub counted : IsCounted shown.session a.native a.native_after
+  pub counted : IsCounted shown.steps a.native a.native_after
   pub line : IsPut diag shown.lines
 
 -- The file that was refused.
@@ -138,6 +142,12 @@ pub record Causes (asked : Option Asked) (a : Around) (diag : Diag) (status : �
   -- and of one that flushes what it changes, this says that it shows the same.
   pub tidy : (name : Text) (s : Ordered) → asked ≡ Some (comparison name)
       → Gets a (session_files name) s → Fits s.session → TidyAreSame a s.session.guests status
+  -- One guest of a session that fits, alone on its board and under the debugger: what each command prints, and then
+  -- the guest's own text after as many steps.
+  pub debugged : (d : Debugged) (session : SessionAtStart) (orders : List Command) (guest : GuestAtStart)
+      → asked ≡ Some (debugging d) → Gets a (debugged_files d) (session, orders)
+      → numbered d.guest session.guests ≡ Some guest → Fits session
+      → Gives a diag (debugged_shown d.guest guest orders) status
   -- The guests of a session that a number makes, in short.
   pub generated : (workload : Workload) → asked ≡ Some (generation workload) → Gives a diag (gen_shown workload) status
   -- Whatever the command, an answer that is known to be shown is given.

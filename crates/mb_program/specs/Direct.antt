@@ -1,9 +1,11 @@
 -- What is counted of the guests of a session: their steps by class, and what the board carries out of them.
-use Rattle.std.specs.Prelude.{◌≡◌, ℕ, ◌+◌, ◌*◌, ◌^◌, ◌<◌, ◌≤◌, List, ◌++◌, map, Option, Some, None, sum_by, codes, decimal}
+use Rattle.std.specs.Prelude.{◌≡◌, ℕ, ◌+◌, ◌*◌, ◌^◌, ◌<◌, ◌≤◌, List, [], ◌∷◌, ◌++◌, map, Option, Some, None, sum_by}
+use Rattle.std.specs.Prelude.{codes, decimal}
+use Rattle.mb_instr.specs.declared.registers.Plain.{Plain}
 use Rattle.mb_words.specs.Words.{Text}
 use Rattle.def_runs.specs.Marks.{trail}
 use Rattle.def_runs.specs.Native.{NativeState}
-use Rattle.def_guests.specs.Turns.{Tally, exits, steps_in, tally_of}
+use Rattle.def_guests.specs.Turns.{Tally, exits, prepared, steps_in, tally_of, turn_of}
 use Rattle.def_guests.specs.Rounds.{Hosted}
 use Rattle.vm_guest.specs.Session.{GuestAtStart}
 use Rattle.vm_slices.specs.Members.{member_at_start}
@@ -43,20 +45,41 @@ counts_line i t = codes "guest " ++ decimal i
 abbrev pub hosted_by : Ordered → Hosted
 hosted_by s = after_session s.order s.session.slice (map member_at_start s.session.guests)
 
--- What is counted once all guests have run.
-pub record CarriedOut (s : Ordered) (native native_after : NativeState) : Type 0 where
-  -- The board has carried out each retired step of each guest, with its marks, and no other,
-  pub retired : native_after.retired ≡ native.retired + sum_by (λ (t : Tally). t.retired) (tallies_by s.session.guests)
-  pub trail : native_after.trail ≡ trail native.trail (hosted_by s).marks
-  -- and has left each that is privileged, trapped or denied by one exception or more.
-  pub exceptions : native.exceptions + sum_by exits (tallies_by s.session.guests) ≤ native_after.exceptions
-  -- Of exceptions there are no more than 32 for each step.
-  pub most : native_after.exceptions ≤ native.exceptions + 32 * sum_by steps_in (tallies_by s.session.guests)
+-- The steps of guests: how many of each class each of them took, and the marks of the retired ones, in the order in
+-- which they were taken.
+pub record Steps : Type 0 where
+  pub tallies : List Tally
+  pub marks : List Plain
 
--- The guests of a session have run, where there is one; else nothing is counted.
-abbrev pub IsCounted : Option Ordered → NativeState → NativeState → Type 0
+-- those of all guests of a session
+abbrev pub steps_of_all : Ordered → Steps
+steps_of_all s = record { tallies = tallies_by s.session.guests; marks = (hosted_by s).marks }
+
+-- those of one guest alone, from its start
+abbrev pub steps_alone : GuestAtStart → Steps
+steps_alone guest = record {
+  tallies = tally_by guest ∷ [];
+  marks = (turn_of guest.script guest.steps (prepared guest.opening guest.ram)).marks;
+}
+
+-- What is counted once these steps are taken.
+pub record AreCarriedOut (steps : Steps) (native native_after : NativeState) : Type 0 where
+  -- The board has carried out each retired step of each guest, with its marks, and no other,
+  pub retired : native_after.retired ≡ native.retired + sum_by (λ (t : Tally). t.retired) steps.tallies
+  pub trail : native_after.trail ≡ trail native.trail steps.marks
+  -- and has left each that is privileged, trapped or denied by one exception or more.
+  pub exceptions : native.exceptions + sum_by exits steps.tallies ≤ native_after.exceptions
+  -- Of exceptions there are no more than 32 for each step.
+  pub most : native_after.exceptions ≤ native.exceptions + 32 * sum_by steps_in steps.tallies
+
+-- all guests of a session have run
+abbrev pub CarriedOut : Ordered → NativeState → NativeState → Type 0
+CarriedOut s native native_after = AreCarriedOut (steps_of_all s) native native_after
+
+-- Guests have taken steps under the monitor, where there are any; else nothing is counted.
+abbrev pub IsCounted : Option Steps → NativeState → NativeState → Type 0
 IsCounted None native native_after = native_after ≡ native
-IsCounted (Some s) native native_after = CarriedOut s native native_after
+IsCounted (Some steps) native native_after = AreCarriedOut steps native native_after
 
 -- The steps of a session can be counted beside these.
 abbrev pub HasRoomToRun : NativeState → Type 0

@@ -38,7 +38,7 @@ pub record IsShown (shown : Shown) (status : ℕ) (lines : Text) (out out_after 
   pub gained : Gains out out_after shown.text
   pub status_is : shown.status ≡ status
   pub lines_are : shown.lines ≡ lines
-  pub counted : IsCounted shown.session native native_after
+  pub counted : IsCounted shown.steps native native_after
 
 -- How an answer is given: its text is put on out, or a first part of it; or memory runs out before that.
 abbrev pub IsGiven : Answer → SinkSeen → SinkSeen → NativeState → NativeState → End → Type 0

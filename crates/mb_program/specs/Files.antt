@@ -1,7 +1,7 @@
 -- The files of machines and of sessions, and what they hold.
 use Rattle.std.specs.Prelude.{ℕ, ◌*◌, List, [], ◌∷◌, Option, Some, None}
 use Rattle.mb_files.specs.Reading.{Reading, gives, ◌>>=◌, file, if_named, images, scripts, sessions}
-use Rattle.mb_script.specs.Plan.{Disk, Guest}
+use Rattle.mb_script.specs.Plan.{Disk, Guest, Plan}
 use Rattle.mb_script.specs.declared.turn.Turn.{Turn}
 use Rattle.vm_disk.specs.Disk.{DiskState, opened}
 use Rattle.vm_disk.specs.declared.disk.TheConstants.{BLOCK_BYTES}
@@ -47,10 +47,11 @@ guests_files (guest ∷ guests) = do
   others ← guests_files guests
   gives (first ∷ others)
 
+-- the session of a plan, by the files of its guests
+abbrev pub plan_files : Plan → Reading Ordered
+plan_files plan = guests_files plan.guests >>= (λ guests. gives (record
+    { session = record { board = 1024 * plan.board; slice = plan.slice; guests = guests }; order = plan.order }))
+
 -- A session file, and then the files of its guests.
 abbrev pub session_files : Text → Reading Ordered
-session_files name = do
-  plan ← file sessions name
-  guests ← guests_files plan.guests
-  gives (record
-      { session = record { board = 1024 * plan.board; slice = plan.slice; guests = guests }; order = plan.order })
+session_files name = file sessions name >>= plan_files

@@ -1,6 +1,8 @@
 pub mod Files
 pub mod Headline
 pub mod Direct
+pub mod Shown
+pub mod Debugs
 pub mod Answers
 pub mod Around
 pub mod Lines
@@ -11,3 +13,4 @@ pub mod Runs
 pub mod Compares
 pub mod Said
 pub mod Disks
+pub mod Lone

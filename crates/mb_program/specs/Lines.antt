@@ -13,7 +13,7 @@ use Rattle.vm_slices.specs.Places.{HostState, members_in}
 use Rattle.mb_program.specs.Headline.{texts_from}
 use Rattle.mb_program.specs.Direct.{counts_line}
 use Rattle.mb_files.specs.declared.fault.FileWhy.{FileWhy}
-use Rattle.mb_files.specs.declared.fault.FileWhy.TheVariants.{TooLong, Line, Outside, NoEnd}
+use Rattle.mb_files.specs.declared.fault.FileWhy.TheVariants.{TooLong, Line, Outside, NoEnd, NoGuest}
 use Rattle.mb_files.specs.declared.fault.Reason.{Reason}
 use Rattle.mb_files.specs.declared.fault.Reason.TheVariants as reason
 use Rattle.mb_program.specs.declared.end.End.{End}
@@ -62,6 +62,7 @@ why_text TooLong = codes " too long\n"
 why_text (Line number why) = codes " line " ++ decimal number ++ codes ": " ++ reason_of why ++ codes "\n"
 why_text (Outside at) = codes " outside " ++ hex8 at ++ codes "\n"
 why_text NoEnd = codes " no end\n"
+why_text (NoGuest guest) = codes " no guest " ++ decimal guest ++ codes "\n"
 
 -- the line of a session that does not fit on its board
 abbrev pub oversize_line : (need have : ℕ) → Text

@@ -3,8 +3,8 @@
 ghost use Rattle.std.specs.Prelude.{◌≡◌, map, option_map, string_bytes};
 ghost use Rattle.def_runs.specs.Native.{NativeState};
 ghost use Rattle.mb_words.specs.Values.{file_said};
-ghost use Rattle.mb_words.specs.Words.{asked_by, assembly, bare, comparison, disassembly, hosting};
-ghost use Rattle.mb_words.specs.Words.{disk_said, excerpt_said, run_said, session_said, source_said};
+ghost use Rattle.mb_words.specs.Words.{asked_by, assembly, bare, comparison, debugging, disassembly, hosting};
+ghost use Rattle.mb_words.specs.Words.{debugged_said, disk_said, excerpt_said, run_said, session_said, source_said};
 ghost use Rattle.mb_program.specs.Answers.{answer_to};
 ghost use Rattle.mb_program.specs.Around.{around_of};
 ghost use Rattle.mb_program.specs.Causes.{HostsNothing};
@@ -13,10 +13,11 @@ ghost use Rattle.mb_program.specs.Ends.{CommandEnds, Ends};
 ghost use Rattle.mb_program.specs.Said.{disk_named};
 
 use crate::compared::show_compared;
+use crate::debugged::show_debugged;
 use crate::end::End;
 use crate::excerpt::show_excerpt;
 use crate::generated::show_generated;
-use crate::guest_reading::read_session;
+use crate::guest_reading::{read_debugged, read_session};
 use crate::hosted::show_hosted;
 use crate::machine::show_machine;
 use crate::machine_files::read_parts;
@@ -25,7 +26,9 @@ use crate::records::show_records;
 use mb_board::Native;
 use mb_files::{image_file, source_file};
 use mb_outside::{Shelf, Sink};
-use mb_words::{Asm, Bare, BareDisk, Command, Dis, SessionFile, WordsFault, read_words};
+use mb_words::{
+    Asm, Bare, BareDisk, Command, DebugGuest, Dis, SessionFile, WordsFault, read_words,
+};
 use std::alloc::Global;
 
 /// The disk of a run.
@@ -126,6 +129,25 @@ fn run_compare<F: Shelf, O: Sink>(
     }
 }
 
+/// `debug`: reads the session, the files of its guests and the commands, carries the commands out on one of the guests,
+/// and writes what they print and its outcome.
+fn run_debug<F: Shelf, O: Sink>(
+    alloc: Global,
+    debug: &DebugGuest,
+    shelf: &mut F,
+    out: &mut O,
+    native: &mut Native,
+) -> End
+    requires room { HasRoomToRun native.old }
+    ensures { CommandEnds (answer_to (debugging (debugged_said debug.now)))
+        (around_of F.Shelf O.Sink shelf.old shelf.new out.old out.new native.old native.new) result }
+{
+    match read_debugged(alloc, shelf, debug) {
+        Ok(debugged) => show_debugged(alloc, debugged, debug.guest, out, native),
+        Err(fault) => End::from(fault),
+    }
+}
+
 /// Reads the words, and runs their command.
 pub fn run_words<F: Shelf, O: Sink>(
     alloc: Global,
@@ -147,6 +169,7 @@ pub fn run_words<F: Shelf, O: Sink>(
         Ok(Command::Host(session)) => run_host(alloc, &session, shelf, out, native),
         Ok(Command::Compare(session)) => run_compare(alloc, &session, shelf, out, native),
         Ok(Command::Gen(workload)) => show_generated(alloc, &workload, out, native),
+        Ok(Command::Debug(debug)) => run_debug(alloc, &debug, shelf, out, native),
         Err(WordsFault::Refused) => End::Words,
         Err(WordsFault::Memory) => End::Memory,
     }

@@ -90,6 +90,7 @@ fn say_why<E: Sink>(
         FileWhy::Line { number, why } => say_line(diag, so_far, number, why),
         FileWhy::Outside { at } => say_outside(diag, so_far, at),
         FileWhy::NoEnd => put_more(diag, so_far, b" no end\n"),
+        FileWhy::NoGuest { guest } => say_no_guest(diag, so_far, guest),
     }
 }
 
@@ -121,6 +122,20 @@ fn say_outside<E: Sink>(
     let begun = put_more(diag, so_far, b" outside ");
     let told = put_more(diag, begun, &hex8(at));
     put_more(diag, told, b"\n")
+}
+
+fn say_no_guest<E: Sink>(
+    diag: &mut E,
+    so_far: Result<(), SinkFault>,
+    guest: u8,
+) -> Result<(), SinkFault>
+    ensures { PrintsMore so_far (E.taken diag.old) (E.taken diag.new) (E.faults diag.old) (E.faults diag.new)
+        (why_text (FileWhy.NoGuest guest)) result }
+{
+    let mut buffer = Buffer::new();
+    let begun = put_more(diag, so_far, b" no guest ");
+    let numbered = put_more(diag, begun, buffer.format(guest).as_bytes());
+    put_more(diag, numbered, b"\n")
 }
 
 /// Says something of a file.

@@ -1,21 +1,25 @@
 //! The files of sessions.
 
-ghost use Rattle.std.specs.Prelude.{◌≡◌, All, IfOk, length, map, option_map};
-ghost use Rattle.mb_script.specs.Answers.{disk_said, guest_said};
-ghost use Rattle.mb_script.specs.Plan.{AreRams, HasDisk, IsBlocks, IsRam, IsTurnOf};
+ghost use Rattle.std.specs.Prelude.{◌≡◌, ◌≤◌, All, IfOk, length, map, option_map};
+ghost use Rattle.mb_script.specs.Answers.{disk_said, guest_said, plan_said};
+ghost use Rattle.mb_script.specs.Plan.{AreRams, HasDisk, IsBlocks, IsInRange, IsRam, IsTurnOf};
 ghost use Rattle.vm_guest.specs.Session.{IsGuest, IsSession};
 ghost use Rattle.mb_words.specs.Values.{file_said};
 ghost use Rattle.mb_files.specs.Shelves.{shelf_seen};
-ghost use Rattle.mb_program.specs.Files.{guest_files, guests_files, session_files};
+ghost use Rattle.mb_words.specs.Words.{debugged_said};
+ghost use Rattle.mb_program.specs.Debugs.{debugged_files};
+ghost use Rattle.mb_program.specs.Files.{guest_files, guests_files, plan_files, session_files};
 ghost use Rattle.mb_files.specs.Reads.{IsRead};
-ghost use Rattle.mb_program.specs.Said.{disk_named, ordered_said};
+ghost use Rattle.mb_program.specs.Said.{debugged_by, disk_named, ordered_said};
 
+use crate::debugged::DebuggedSession;
 use crate::machine_files::read_parts;
 use crate::named::{NamedDisk, NamedFiles, Parts};
 use crate::ordered::OrderedSession;
-use mb_files::{FileFault, session_file};
+use mb_files::{FileFault, commands_file, session_file, session_file_with};
 use mb_outside::Shelf;
-use mb_script::{DiskPlan, GuestPlan};
+use mb_script::{DiskPlan, GuestPlan, SessionPlan};
+use mb_words::DebugGuest;
 use std::alloc::Global;
 use vm_guest::{Session, SessionGuest};
 
@@ -97,6 +101,25 @@ fn read_guests<F: Shelf>(
     Ok(guests)
 }
 
+/// Reads the files of a plan's guests.
+fn read_planned<F: Shelf>(
+    alloc: Global,
+    shelf: &mut F,
+    plan: SessionPlan,
+) -> Result<OrderedSession, FileFault>
+    requires { IsInRange (plan_said plan) }
+    ensures read { IsRead (plan_files (plan_said plan)) ordered_said
+        (shelf_seen F.Shelf shelf.old) (shelf_seen F.Shelf shelf.new) result }
+    ensures in_range { IfOk result (λ ordered. IsSession ordered.session) }
+    ensures turns { IfOk result (λ ordered. All (IsTurnOf (length ordered.session.guests)) ordered.order.items) }
+    ensures count { IfOk result (λ ordered. length ordered.session.guests ≡ length (plan_said plan).guests) }
+{
+    let guests = read_guests(alloc, shelf, plan.guests())?;
+    let session = Session::new(1024 * plan.board(), plan.slice(), guests);
+    let order = plan.into_order();
+    Ok(OrderedSession { session, order })
+}
+
 /// Reads a session file, and then the files of its guests.
 pub(crate) fn read_session<F: Shelf>(
     alloc: Global,
@@ -109,8 +132,25 @@ pub(crate) fn read_session<F: Shelf>(
     ensures turns { IfOk result (λ ordered. All (IsTurnOf (length ordered.session.guests)) ordered.order.items) }
 {
     let plan = session_file(alloc, shelf, name)?;
-    let guests = read_guests(alloc, shelf, plan.guests())?;
-    let session = Session::new(1024 * plan.board(), plan.slice(), guests);
-    let order = plan.into_order();
-    Ok(OrderedSession { session, order })
+    read_planned(alloc, shelf, plan)
+}
+
+/// Reads a session file, which has a guest of this number, then the files of its guests, and then the commands.
+pub(crate) fn read_debugged<F: Shelf>(
+    alloc: Global,
+    shelf: &mut F,
+    debug: &DebugGuest,
+) -> Result<DebuggedSession, FileFault>
+    ensures read { IsRead (debugged_files (debugged_said debug.now)) debugged_by
+        (shelf_seen F.Shelf shelf.old) (shelf_seen F.Shelf shelf.new) result }
+    ensures in_range { IfOk result (λ debugged. IsSession debugged.session) }
+    ensures guest { IfOk result (λ debugged. debug.now.guest ≤ length debugged.session.guests) }
+{
+    let plan = session_file_with(alloc, shelf, debug.session, debug.guest)?;
+    let ordered = read_planned(alloc, shelf, plan)?;
+    let commands = commands_file(alloc, shelf, debug.commands)?;
+    Ok(DebuggedSession {
+        session: ordered.session,
+        commands,
+    })
 }

@@ -8,6 +8,7 @@
 mod bare_machine;
 mod command;
 mod compared;
+mod debugged;
 mod diagnosis;
 mod end;
 mod excerpt;

@@ -62,7 +62,7 @@ blocks_of text = ranged 1 MOST_BLOCKS text
 abbrev pub seed_of : Text → Option ℕ
 seed_of text = ranged 0 4294967295 text
 
--- how many guests it has: 1 to 16
+-- how many guests a session has, or the number of one of them: 1 to 16
 abbrev pub guests_of : Text → Option ℕ
 guests_of text = ranged 1 MOST_GUESTS text
 

@@ -10,6 +10,7 @@ use Rattle.mb_words.specs.Values.{blocks_of, guests_of, seed_of}
 use Rattle.mb_words.specs.declared.asm.Asm.{Asm}
 use Rattle.mb_words.specs.declared.bare.Bare.{Bare}
 use Rattle.mb_words.specs.declared.bare.BareDisk.{BareDisk}
+use Rattle.mb_words.specs.declared.debug_guest.DebugGuest.{DebugGuest}
 use Rattle.mb_words.specs.declared.dis.Dis.{Dis}
 use Rattle.mb_words.specs.declared.generate.Generate.{Generate}
 use Rattle.mb_words.specs.declared.session.SessionFile.{SessionFile}
@@ -38,9 +39,16 @@ pub record Workload : Type 0 where
   pub seed : ℕ
   pub guests : ℕ
 
+-- a guest of a session under the debugger: the names of the session's file and of the commands' file, and the guest's
+-- number
+pub record Debugged : Type 0 where
+  pub session : Text
+  pub commands : Text
+  pub guest : ℕ
+
 -- what words can ask for: a run, the assembly of a source, the listing of an excerpt, the runs of all guests of a
--- session, what their runs by both rules have in common, or the runs of guests that are made; a source and a session
--- by the name of its file
+-- session, what their runs by both rules have in common, the runs of guests that are made, or one guest of a session
+-- under the debugger; a source and a session by the name of its file
 pub data Asked : Type 0 where
   bare : Run → Asked
   assembly : Text → Asked
@@ -48,6 +56,7 @@ pub data Asked : Type 0 where
   hosting : Text → Asked
   comparison : Text → Asked
   generation : Workload → Asked
+  debugging : Debugged → Asked
 
 abbrev pub disk_said : BareDisk → Disk
 disk_said d = record { blocks = d.blocks; contents = file_said d.contents }
@@ -73,6 +82,9 @@ session_said s = s.name.now
 abbrev pub workload_said : Generate → Workload
 workload_said g = record { seed = g.seed; guests = g.guests }
 
+abbrev pub debugged_said : DebugGuest → Debugged
+debugged_said d = record { session = d.session.now; commands = d.commands.now; guest = d.guest }
+
 abbrev pub command_said : Command → Asked
 command_said (command.Bare b) = bare (run_said b)
 command_said (command.Asm a) = assembly (source_said a)
@@ -80,6 +92,7 @@ command_said (command.Dis d) = disassembly (excerpt_said d)
 command_said (command.Host s) = hosting (session_said s)
 command_said (command.Compare s) = comparison (session_said s)
 command_said (command.Gen g) = generation (workload_said g)
+command_said (command.Debug d) = debugging (debugged_said d)
 
 -- `bare IMAGE --ram KIB --steps N [--script FILE] [--disk BLOCKS [--contents FILE]]`
 abbrev pub bare_form : Form
@@ -187,6 +200,27 @@ workload_with _ _ = None
 abbrev pub gen_workload : List Use → Option Workload
 gen_workload uses = workload_with (said_by seed_of (codes "seed") uses) (said_by guests_of (codes "guests") uses)
 
+-- `debug SESSION COMMANDS --guest I`
+abbrev pub debug_form : Form
+debug_form = record {
+  name = codes "debug";
+  positionals = codes "SESSION" ∷ codes "COMMANDS" ∷ [];
+  options = record { name = codes "guest"; required = true } ∷ [];
+}
+
+-- a guest under the debugger, where each of its values says something
+abbrev pub debugged_with : Option Text → Option Text → Option ℕ → Option Debugged
+debugged_with (Some session) (Some commands) (Some guest) =
+    Some (record { session = session; commands = commands; guest = guest })
+debugged_with _ _ _ = None
+
+-- the guest that the values of `debug` ask for
+abbrev pub debugged_guest : List Use → Option Debugged
+debugged_guest uses = debugged_with
+    (said_by name_of (codes "SESSION") uses)
+    (said_by name_of (codes "COMMANDS") uses)
+    (said_by guests_of (codes "guest") uses)
+
 -- What the words ask for: `PROGRAM COMMAND`, and then the command's own words in its form. Other words ask
 -- for nothing.
 unfoldable pub asked_by : List Text → Option Asked
@@ -198,5 +232,7 @@ asked_by (program ∷ name ∷ words) =
     else if bytes_eq name (codes "compare")
     then option_map comparison (option_and_then session_named (read compare_form words))
     else if bytes_eq name (codes "gen") then option_map generation (option_and_then gen_workload (read gen_form words))
+    else if bytes_eq name (codes "debug")
+    then option_map debugging (option_and_then debugged_guest (read debug_form words))
     else None
 asked_by _ = None

@@ -2,6 +2,7 @@
 
 use crate::asm::Asm;
 use crate::bare::Bare;
+use crate::debug_guest::DebugGuest;
 use crate::dis::Dis;
 use crate::generate::Generate;
 use crate::session::SessionFile;
@@ -15,4 +16,5 @@ pub enum Command<'a> {
     Host(SessionFile<'a>),
     Compare(SessionFile<'a>),
     Gen(Generate),
+    Debug(DebugGuest<'a>),
 }

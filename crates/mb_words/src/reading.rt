@@ -7,6 +7,7 @@ ghost use Rattle.mb_words.specs.Words.{command_said, asked_by};
 use crate::asm_words::read_asm;
 use crate::bare_words::read_bare;
 use crate::command::Command;
+use crate::debug_words::read_debug;
 use crate::dis_words::read_dis;
 use crate::gen_words::read_gen;
 use crate::session_words::{read_compare, read_host};
@@ -29,6 +30,7 @@ pub fn read_words<'a>(alloc: Global, words: &'a [String]) -> Result<Command<'a>,
         "host" => Ok(Command::Host(read_host(alloc, rest)?)),
         "compare" => Ok(Command::Compare(read_compare(alloc, rest)?)),
         "gen" => Ok(Command::Gen(read_gen(alloc, rest)?)),
+        "debug" => Ok(Command::Debug(read_debug(alloc, rest)?)),
         _ => Err(WordsFault::Refused),
     }
 }

@@ -120,7 +120,7 @@ pub(crate) fn blocks_if_given(text: Option<&str>) -> Option<Option<u32>>
     }
 }
 
-/// How many guests a session has: 1 to 16.
+/// How many guests a session has, or the number of one of them: 1 to 16.
 pub(crate) fn guests(text: &str) -> Option<u8>
     ensures given { result ≡ guests_of text.now }
     ensures in_range { IfSome result IsGuestCount }

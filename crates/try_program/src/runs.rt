@@ -1,6 +1,7 @@
 //! Whole runs in memory: what no clause says, and each answer once with ample memory.
 
 mod commands;
+mod debugs;
 mod disks;
 mod hostile_guests;
 mod outsides;

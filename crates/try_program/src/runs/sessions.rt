@@ -42,6 +42,21 @@ const READS: &[u8] = b"S10B00000001000000000400EF\n\
 S1150400203820002038200423FC00000001FFF00020C3\n\
 S9030000FC\n";
 
+/// It reads 256 pages, one behind the other, which lead to sixteen, and begins again.
+const READS_PAGES: &[u8] = b"S10B00000001000000000400EF\n\
+S1270400203C0000C0004E7B08064E7B0807203C000080004E7B000341F800004A1041E8100060F83D\n\
+S107C0000000C20274\n\
+S113C2000000C4020000C4020000C4020000C40212\n\
+S123C400000000010000100100002001000030010000400100005001000060010000700150\n\
+S123C42000008001000090010000A0010000B0010000C0010000D0010000E0010000F00130\n\
+S123C440000000010000100100002001000030010000400100005001000060010000700110\n\
+S123C46000008001000090010000A0010000B0010000C0010000D0010000E0010000F001F0\n\
+S123C4800000000100001001000020010000300100004001000050010000600100007001D0\n\
+S123C4A000008001000090010000A0010000B0010000C0010000D0010000E0010000F001B0\n\
+S123C4C0000000010000100100002001000030010000400100005001000060010000700190\n\
+S123C4E000008001000090010000A0010000B0010000C0010000D0010000E0010000F00170\n\
+S9030000FC\n";
+
 pub(super) const SESSION_OF_ONE: &[u8] =
     b"session 1\nboard 192\nslice 1000\nguest 64 10 hello.s19 -\n";
 
@@ -57,13 +72,16 @@ pub(super) struct Row<'a> {
     pub(super) diag: &'a [u8],
 }
 
-/// A shelf with all images, the contents of a disk, a script that types a line, a source, and a session.
-fn shelf(alloc: Global, session: &[u8], fails: u64) -> Option<MemShelf> {
-    let known: [(&str, &[u8]); 21] = [
+/// A shelf with all images, the contents of a disk, a script that types a line, a source, a session, and a debugger's
+/// commands.
+fn shelf<'a>(alloc: Global, session: &'a [u8], commands: &'a [u8], fails: u64) -> Option<MemShelf> {
+    let known: [(&str, &[u8]); 23] = [
         ("s.txt", session),
+        ("debug.txt", commands),
         ("hello.s19", HELLO),
         ("loop.s19", LOOP),
         ("reads.s19", READS),
+        ("reads_pages.s19", READS_PAGES),
         ("fill.s19", FILL),
         ("zeros.s19", ZEROS),
         ("stale.s19", STALE),
@@ -97,7 +115,18 @@ pub(super) fn run_session(
     session: &[u8],
     failing: Failing,
 ) -> Option<Ran> {
-    let mut shelf = shelf(alloc, session, failing.shelf)?;
+    run_with(alloc, words, session, b"", failing)
+}
+
+/// A run on a session and a debugger's commands.
+pub(super) fn run_with(
+    alloc: Global,
+    words: &str,
+    session: &[u8],
+    commands: &[u8],
+    failing: Failing,
+) -> Option<Ran> {
+    let mut shelf = shelf(alloc, session, commands, failing.shelf)?;
     run_over(alloc, words, &mut shelf, failing)
 }
 

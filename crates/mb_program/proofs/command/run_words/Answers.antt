@@ -20,3 +20,6 @@ returns-in-Ok-Host-clause-ends g c = rw (c.in-Ok-Host.ensures, c.in-Ok-Host.fiel
 
 pub returns-in-Ok-Compare-clause-ends : goal.returns-in-Ok-Compare-clause-ends
 returns-in-Ok-Compare-clause-ends g c = rw (c.in-Ok-Compare.ensures, c.in-Ok-Compare.field-0-is) c.run_compare.ensures
+
+pub returns-in-Ok-Debug-clause-ends : goal.returns-in-Ok-Debug-clause-ends
+returns-in-Ok-Debug-clause-ends g c = rw (c.in-Ok-Debug.ensures, c.in-Ok-Debug.field-0-is) c.run_debug.ensures
