@@ -9,11 +9,12 @@ use Rattle.mb_port.specs.declared.types.Space.TheVariants.{User, Super}
 use Rattle.vm_shadow.specs.declared.table.Table.{Table}
 use Rattle.vm_shadow.specs.declared.table.Table.TheVariants.{Pointers, Pages}
 use Rattle.vm_shadow.specs.Slots.{number_of, pages_of, Has}
-use Rattle.vm_shadow.specs.Area.{updated, in_root, in_slot, link, link_to, entry_of, IsPageLong, IsTable, IsFree, AreTables}
+use Rattle.vm_shadow.specs.Area.{in_root, in_slot, link, link_to, entry_of, IsPageLong, IsTable, IsFree, AreTables}
+use Rattle.law_links.specs.Paths.{updated}
 use Rattle.vm_shadow.proofs.Positions.{same_cases, has_more, has_new, had, link_yes, link_no, link_same}
 use Rattle.vm_shadow.proofs.Kept.{once_pushed}
 use Rattle.vm_shadow.proofs.PageLongs.{page_none}
-use Rattle.vm_shadow.proofs.Longs.{updated_same, updated_other}
+use Rattle.law_links.proofs.Paths.{updated_same, updated_other}
 
 pub root_low : (space : Space) (index : ℕ) → index < 128 → in_root space index < 256
 root_low User i h = omega arith

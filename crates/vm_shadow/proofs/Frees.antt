@@ -6,10 +6,11 @@ use Rattle.mb_port.specs.declared.types.Space.{Space}
 use Rattle.vm_shadow.specs.declared.table.Table.{Table}
 use Rattle.vm_shadow.specs.declared.table.Table.TheVariants.{Pointers, Pages}
 use Rattle.vm_shadow.specs.Slots.{same_table, number_of, pages_of, Has}
-use Rattle.vm_shadow.specs.Area.{updated, in_root, in_slot, link, link_to, entry_of, IsPageLong, IsFree, AreTables}
+use Rattle.vm_shadow.specs.Area.{in_root, in_slot, link, link_to, entry_of, IsPageLong, IsFree, AreTables}
+use Rattle.law_links.specs.Paths.{updated}
 use Rattle.vm_shadow.proofs.Positions.{same_cases, link_yes, link_no, link_same}
 use Rattle.vm_shadow.proofs.Kept.{once_kept, gone_other, gone_had}
-use Rattle.vm_shadow.proofs.Longs.{updated_same, updated_other}
+use Rattle.law_links.proofs.Paths.{updated_same, updated_other}
 use Rattle.vm_shadow.proofs.Changes.{root_not_slot, slot_not_root, roots_apart, root_place, slots_differ, crossed, crossed_back}
 use Rattle.vm_shadow.proofs.Changes.{pointers_same, led_to, held, held_yes, held_no}
 

@@ -12,8 +12,9 @@ use Rattle.vm_shadow.specs.declared.table.Table.TheVariants.{Pages}
 use Rattle.vm_shadow.specs.Slots.{Placed, number_of, pages_of, Has}
 use Rattle.vm_shadow.specs.Shadows.{EntryMap, is_at, with_entry}
 use Rattle.vm_shadow.specs.Mapped.{mapped, root_of, entries_in}
-use Rattle.vm_shadow.specs.Area.{longs, updated, in_root, in_slot, entry_of, AreTables, Laid}
-use Rattle.vm_shadow.proofs.Longs.{updated_same, updated_other}
+use Rattle.vm_shadow.specs.Area.{longs, in_root, in_slot, entry_of, AreTables, Laid}
+use Rattle.law_links.specs.Paths.{updated}
+use Rattle.law_links.proofs.Paths.{updated_same, updated_other}
 use Rattle.vm_shadow.proofs.Changes.{held, held_yes, held_no}
 use Rattle.vm_shadow.proofs.Walks.{mapped_is}
 

@@ -1,6 +1,5 @@
 pub mod PageLongs
 pub mod Longs
-pub mod Paths
 pub mod Rings
 pub mod Moves
 pub mod Uses

@@ -10,13 +10,9 @@ use Rattle.byteorder.specs.Endian.{big_bytes}
 use Rattle.byteorder.specs.Numbers.{length-bytes_high_first}
 use Rattle.mb_walk.specs.Memory.{with_number}
 use Rattle.mb_walk.proofs.LongLemmas.{long_same, long_other}
-use Rattle.vm_shadow.specs.Area.{longs, updated, OutsideStays}
-
-pub updated_same : {T : Type 0} (t : ℕ → T) (index : ℕ) (long : T) → updated t index long index ≡ long
-updated_same t index long = let b : (index == index) ≡ true = grind (arith, nat_tests) in ap (λ (b : Bool). cond b long (t index)) b
-
-pub updated_other : {T : Type 0} (t : ℕ → T) (index : ℕ) (long : T) (at : ℕ) → at ≢ index → updated t index long at ≡ t at
-updated_other t index long at n = let b : (at == index) ≡ false = grind (arith, nat_tests) in ap (λ (b : Bool). cond b long (t at)) b
+use Rattle.vm_shadow.specs.Area.{longs, OutsideStays}
+use Rattle.law_links.specs.Paths.{updated}
+use Rattle.law_links.proofs.Paths.{updated_same, updated_other}
 
 pub longs_written : (ram : List ℕ) (area index long : ℕ) → area % 4 ≡ 0 → area + 4 * index + 4 ≤ length ram → long < 2 ^ 32
     → longs (with_number ram (area + 4 * index) 4 long) area ≡ updated (longs ram area) index long

@@ -10,9 +10,10 @@ use Rattle.vm_shadow.specs.declared.table.Table.TheVariants.{Pointers, Pages}
 use Rattle.vm_shadow.specs.Slots.{Placed, number_of, with_table, pages_of, Has}
 use Rattle.vm_shadow.specs.Shadows.{EntryMap, Shadowed, with_entry, nothing}
 use Rattle.vm_shadow.specs.Mapped.{entries_in}
-use Rattle.vm_shadow.specs.Area.{longs, updated, in_root, in_slot, link, entry_of, one, used, IsPageLong, IsUsed}
+use Rattle.vm_shadow.specs.Area.{longs, in_root, in_slot, link, entry_of, one, used, IsPageLong, IsUsed}
+use Rattle.law_links.specs.Paths.{updated}
 use Rattle.vm_shadow.specs.Area.{Counted, Laid, MapsPlaced, UsedBut, Pushed, Removed}
-use Rattle.vm_shadow.proofs.Longs.{updated_same, updated_other}
+use Rattle.law_links.proofs.Paths.{updated_same, updated_other}
 use Rattle.vm_shadow.proofs.Positions.{same_cases, pushed_length, had, has_new, link_yes}
 use Rattle.vm_shadow.proofs.Kept.{gone_had}
 use Rattle.vm_shadow.proofs.Uses.{used_same, used_set, used_apart, used_empty, none_used, used_by, used_moved}

@@ -1,8 +1,8 @@
 -- The writes that free a slot, and those that take one, as one change of the links each.
 use Rattle.std.proofs.Common.{◌≡◌, ◌∙◌, ℕ, ◌+◌, ◌≤◌, ◌<◌, List, [], ◌∷◌, ◌++◌, length, ap, sym, subst, refl, arith, length-append}
 use Rattle.vm_shadow.specs.declared.table.Table.{Table}
-use Rattle.vm_shadow.specs.Area.{updated}
-use Rattle.vm_shadow.specs.Chains.{times, Linked}
+use Rattle.law_links.specs.Paths.{updated, times}
+use Rattle.vm_shadow.specs.Chains.{Linked}
 use Rattle.vm_shadow.specs.Links.{Links, order, vacant}
 use Rattle.vm_shadow.proofs.Rings.{unlinked, pushed, resealed, order_is, node_inside, ends_low, free_once_here, free_inside}
 use Rattle.vm_shadow.proofs.Rings.{newest_low, from, all_free}

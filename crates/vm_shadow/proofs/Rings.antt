@@ -4,11 +4,9 @@ use Rattle.std.proofs.Common.{ap, sym, subst, refl, arith, inl, inr, length-appe
 use Rattle.std.specs.Prelude.{nat_lt}
 use Rattle.std.proofs.lemmas.Bool.{cases_eq, cases_lt}
 use Rattle.std.proofs.lemmas.Bool.Decides.{nat_tests}
-use Rattle.vm_shadow.specs.Area.{updated}
-use Rattle.vm_shadow.specs.Chains.{IsPath, walk, times, Linked}
-use Rattle.vm_shadow.proofs.Longs.{updated_same, updated_other}
-use Rattle.vm_shadow.proofs.Paths.{one, none, times-append, last, last_in}
-use Rattle.vm_shadow.proofs.Paths.{path-kept, path-split, path-end, path-skip, path-front, path-last, path-walk}
+use Rattle.law_links.specs.Paths.{updated, IsPath, walk, times}
+use Rattle.vm_shadow.specs.Chains.{Linked}
+use Rattle.law_links.proofs.Paths.{updated_same, updated_other, one, none, times-append, last, last_in, path-kept, path-split, path-end, path-skip, path-front, path-last, path-walk}
 
 -- each slot is there once, and there are no others
 counts : (live free : List ℕ) → ((at : ℕ) → times at live + times at free ≡ cond (nat_lt at 126) 1 0) → (at : ℕ)
@@ -60,13 +58,13 @@ module _ (newer older : ℕ → ℕ) (live free : List ℕ) (linked : Linked new
   ]
 
   -- the walks are the lists
-  pub order_is : walk newer 126 (newer 126) ≡ live
-  order_is = path-walk newer 126 live 126 (λ k h. inside k (omega (arith, h))) (omega (arith, linked.all)) linked.ring
+  pub order_is : walk 126 newer 126 (newer 126) ≡ live
+  order_is = path-walk 126 newer 126 live 126 (λ k h. inside k (omega (arith, h))) (omega (arith, linked.all)) linked.ring
 
-  pub vacant_is : walk newer 126 (newer 127) ≡ free
-  vacant_is = path-walk newer 127 free 126 (λ k h. inside k (omega (arith, h))) (omega (arith, linked.all)) linked.rest
+  pub vacant_is : walk 126 newer 126 (newer 127) ≡ free
+  vacant_is = path-walk 126 newer 127 free 126 (λ k h. inside k (omega (arith, h))) (omega (arith, linked.all)) linked.rest
 
-  pub resealed : Linked newer older (walk newer 126 (newer 126)) (walk newer 126 (newer 127))
+  pub resealed : Linked newer older (walk 126 newer 126 (newer 126)) (walk 126 newer 126 (newer 127))
   resealed = rw (order_is, vacant_is) linked
 
 first_step : (f : ℕ → ℕ) (from : ℕ) (xs : List ℕ) (to at : ℕ) → from ≡ at → IsPath f from xs to → 0 < times (f at) (to ∷ xs)

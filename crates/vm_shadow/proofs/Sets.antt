@@ -2,7 +2,8 @@
 use Rattle.std.proofs.Common.{◌≡◌, ◌∙◌, ◌+◌, ◌≤◌, ◌<◌, ℕ, List, get_or, ap, sym, subst, arith}
 use Rattle.vm_shadow.specs.declared.nodes.Nodes.{Nodes}
 use Rattle.vm_shadow.specs.Slots.{Slots, placed}
-use Rattle.vm_shadow.specs.Area.{longs, updated, in_slot, one, used, Counted}
+use Rattle.vm_shadow.specs.Area.{longs, in_slot, one, used, Counted}
+use Rattle.law_links.specs.Paths.{updated}
 use Rattle.vm_shadow.specs.Links.{Links, links_of, counts}
 use Rattle.vm_shadow.proofs.Uses.{one_in, used_most}
 use Rattle.vm_shadow.proofs.Views.{view, counts_are}

@@ -4,8 +4,8 @@ use Rattle.std.proofs.Common.{ap, sym, subst, refl, arith, inl, inr}
 use Rattle.std.proofs.lemmas.Bool.{cases_Bool}
 use Rattle.vm_shadow.specs.declared.table.Table.{Table}
 use Rattle.vm_shadow.specs.Slots.{same_table, number_of, Has, Once}
-use Rattle.vm_shadow.specs.Chains.{times}
-use Rattle.vm_shadow.proofs.Paths.{one, times-append}
+use Rattle.law_links.specs.Paths.{times}
+use Rattle.law_links.proofs.Paths.{one, times-append}
 use Rattle.vm_shadow.proofs.Positions.{same_is, same_self, same_not}
 use Rattle.vm_shadow.proofs.Kept.{has_first, has_later, once_first, once_rest}
 

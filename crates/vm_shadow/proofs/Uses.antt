@@ -2,8 +2,9 @@
 use Rattle.std.proofs.Common.{◌≡◌, ◌≢◌, ◌∙◌, ℕ, zero, suc, ◌+◌, ◌≤◌, ◌<◌, ◌==◌, Bool, true, false, cond, refl, ap, arith, inl, inr}
 use Rattle.std.proofs.lemmas.Bool.{cases_eq}
 use Rattle.std.proofs.lemmas.Bool.Decides.{nat_tests}
-use Rattle.vm_shadow.specs.Area.{updated, in_slot, one, used, IsUsed}
-use Rattle.vm_shadow.proofs.Longs.{updated_same, updated_other}
+use Rattle.vm_shadow.specs.Area.{in_slot, one, used, IsUsed}
+use Rattle.law_links.specs.Paths.{updated}
+use Rattle.law_links.proofs.Paths.{updated_same, updated_other}
 
 pub one_none : (long : ℕ) → long ≡ 0 → one long ≡ 0
 one_none long e = let b : (long == 0) ≡ true = grind (arith, nat_tests) in ap (λ (b : Bool). cond b 0 1) b

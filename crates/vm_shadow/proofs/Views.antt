@@ -6,10 +6,10 @@ use Rattle.vm_shadow.specs.declared.table.Table.{Table}
 use Rattle.vm_shadow.specs.declared.nodes.Node.{Node}
 use Rattle.vm_shadow.specs.declared.nodes.Nodes.{Nodes}
 use Rattle.vm_shadow.specs.Slots.{Slots, placed, same_table, number_of, Has, Once}
-use Rattle.vm_shadow.specs.Area.{updated, Pushed, Removed}
-use Rattle.vm_shadow.specs.Chains.{times}
+use Rattle.vm_shadow.specs.Area.{Pushed, Removed}
+use Rattle.law_links.specs.Paths.{updated, times}
 use Rattle.vm_shadow.specs.Links.{Links, links_of, order, tables, counts, no_node}
-use Rattle.vm_shadow.proofs.Longs.{updated_same, updated_other}
+use Rattle.law_links.proofs.Paths.{updated_same, updated_other}
 use Rattle.vm_shadow.proofs.Kept.{gone_had}
 use Rattle.vm_shadow.proofs.Slotted.{at_first, slot_read, split, table_at, listed_at, map_joined, joined_old, joined_new, map_left, left_slot}
 

@@ -25,10 +25,6 @@ pub record OutsideStays (area : ℕ) (before after : List ℕ) : Type 0 where
   pub below : take area after ≡ take area before
   pub above : drop (area + AREA_BYTES) after ≡ drop (area + AREA_BYTES) before
 
--- a function of numbers, as the longs of an area, with another value at a number
-abbrev pub updated : {T : Type 0} → (ℕ → T) → ℕ → T → ℕ → T
-updated t index long at = if at == index then long else t at
-
 -- the number of a root's entry, and of an entry of a slot
 abbrev pub in_root : Space → ℕ → ℕ
 in_root User index = index

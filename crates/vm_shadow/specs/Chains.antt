@@ -3,21 +3,7 @@
 use Rattle.std.specs.Prelude.{◌≡◌, ℕ, zero, suc, ◌+◌, ◌<◌, ◌==◌, nat_lt, if◌then◌else◌}
 use Rattle.std.specs.Prelude.{List, [], ◌∷◌, length}
 use Rattle.vm_shadow.specs.declared.nodes.TheConstants.{SLOTS, FREE}
-
--- a link leads from a place through these slots, in order, and then to the end
-abbrev pub IsPath : (ℕ → ℕ) → ℕ → List ℕ → ℕ → Type 0
-IsPath f from [] to = f from ≡ to
-IsPath f from (x ∷ xs) to = (f from ≡ x) × IsPath f x xs to
-
--- the slots that a link leads through, from a place on, at most so many
-unfoldable pub walk : (ℕ → ℕ) → ℕ → ℕ → List ℕ
-walk f zero at = []
-walk f (suc n) at = if nat_lt at SLOTS then at ∷ walk f n (f at) else []
-
--- how often a number is in a list
-abbrev pub times : ℕ → List ℕ → ℕ
-times n [] = 0
-times n (x ∷ xs) = (if x == n then 1 else 0) + times n xs
+use Rattle.law_links.specs.Paths.{IsPath, times}
 
 -- The links are those of slots in use, that of the oldest table first, and of free slots.
 pub record Linked (newer older : ℕ → ℕ) (live free : List ℕ) : Type 0 where

@@ -5,7 +5,8 @@ use Rattle.vm_shadow.specs.declared.table.Table.{Table}
 use Rattle.vm_shadow.specs.declared.table.Table.TheVariants.{Pointers}
 use Rattle.vm_shadow.specs.declared.nodes.Node.{Node}
 use Rattle.vm_shadow.specs.declared.nodes.Nodes.{Nodes}
-use Rattle.vm_shadow.specs.Chains.{walk, Linked}
+use Rattle.vm_shadow.specs.Chains.{Linked}
+use Rattle.law_links.specs.Paths.{walk}
 use Rattle.vm_shadow.specs.declared.nodes.TheConstants.{SLOTS, FREE}
 
 -- The links, the tables and the counts, as functions of numbers.
@@ -33,11 +34,11 @@ links_of t = record {
 
 -- the slots in use, from that of the oldest table on
 abbrev pub order : Links → List ℕ
-order l = walk l.newer SLOTS (l.newer SLOTS)
+order l = walk SLOTS l.newer SLOTS (l.newer SLOTS)
 
 -- the free slots
 abbrev pub vacant : Links → List ℕ
-vacant l = walk l.newer SLOTS (l.newer FREE)
+vacant l = walk SLOTS l.newer SLOTS (l.newer FREE)
 
 -- the tables in use
 abbrev pub tables : Links → List Table

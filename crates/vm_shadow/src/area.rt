@@ -1,7 +1,8 @@
 //! The longs of an area.
 
 ghost use Rattle.std.specs.Prelude.{◌≡◌, ℕ, ◌+◌, ◌*◌, ◌%◌, ◌^◌, ◌≤◌, ◌<◌, ◌⊎◌, length, MatchOption};
-ghost use Rattle.vm_shadow.specs.Area.{OutsideStays, longs, updated, in_root as root_place, in_slot as slot_place};
+ghost use Rattle.vm_shadow.specs.Area.{OutsideStays, longs, in_root as root_place, in_slot as slot_place};
+ghost use Rattle.law_links.specs.Paths.{updated};
 ghost use Rattle.vm_shadow.specs.Area.{link as link_of, page_long as long_of, IsPageLong};
 ghost use Rattle.vm_shadow.specs.declared.nodes.TheConstants.{SLOTS};
 

@@ -1,8 +1,8 @@
 //! The slots of an area as linked nodes.
 
 ghost use Rattle.std.specs.Prelude.{◌≡◌, ℕ, ◌+◌, ◌<◌, ◌≤◌, ◌==◌, true, List, [], ◌∷◌, ◌++◌, length, IfOk};
-ghost use Rattle.vm_shadow.specs.Area.{updated, one};
-ghost use Rattle.vm_shadow.specs.Chains.{times};
+ghost use Rattle.vm_shadow.specs.Area.{one};
+ghost use Rattle.law_links.specs.Paths.{updated, times};
 ghost use Rattle.vm_shadow.specs.Links.{links_of, order, Sized, Sound};
 
 use crate::table::Table;

@@ -6,7 +6,8 @@ ghost use Rattle.vm_shadow.specs.Slots.{placed, number_of, with_table, tables_fo
 ghost use Rattle.vm_shadow.specs.Slots.{is_full_for as full_for, pages_of};
 ghost use Rattle.vm_shadow.specs.Shadows.{nothing, room_for, with_page_put, dropped, with_entry};
 ghost use Rattle.vm_shadow.specs.Mapped.{mapped, root_of, shadowed, BothStand};
-ghost use Rattle.vm_shadow.specs.Area.{OutsideStays, longs, updated, in_root as root_place, in_slot as slot_place, entry_of};
+ghost use Rattle.vm_shadow.specs.Area.{OutsideStays, longs, in_root as root_place, in_slot as slot_place, entry_of};
+ghost use Rattle.law_links.specs.Paths.{updated};
 ghost use Rattle.vm_shadow.specs.Area.{Counted, IsPageLong, Laid, Maps, OnlyGo, Pushed, Removed, UsedBut};
 ghost use Rattle.vm_shadow.specs.declared.area.TheConstants.{AREA_BYTES};
 

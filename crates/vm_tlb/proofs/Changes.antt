@@ -4,9 +4,10 @@ use Rattle.std.proofs.Common.{ap, sym, subst, refl, arith, inl, inr, append_asso
 use Rattle.std.specs.Prelude.{nat_lt}
 use Rattle.std.proofs.lemmas.Bool.{cases_eq, cases_lt}
 use Rattle.std.proofs.lemmas.Bool.Decides.{nat_tests}
-use Rattle.vm_tlb.specs.Chains.{updated, IsPath, times, chain, before, Linked}
-use Rattle.vm_tlb.proofs.Paths.{updated_same, updated_other, one, none, times-append, last, last_in}
-use Rattle.vm_tlb.proofs.Paths.{path-kept, path-split, path-end, path-skip, path-front, path-last, before_is}
+use Rattle.vm_tlb.specs.Chains.{chain, before, Linked}
+use Rattle.law_links.specs.Paths.{updated, IsPath, times}
+use Rattle.law_links.proofs.Paths.{updated_same, updated_other, one, none, times-append, last, last_in, path-kept, path-split, path-end, path-skip, path-front, path-last}
+use Rattle.vm_tlb.proofs.Paths.{before_is}
 use Rattle.vm_tlb.proofs.Paths.{chain-append, chain-here, chain-elsewhere, times-elsewhere, times-chain, chain-kept}
 
 -- each node is there once, and there are no others

@@ -2,8 +2,8 @@
 use Rattle.std.proofs.Common.{◌≡◌, ◌≢◌, ◌∙◌, ℕ, zero, suc, ◌-◌, ◌≤◌, ◌<◌, List, [], ◌∷◌, length, map, ap, sym, subst, refl, arith}
 use Rattle.std.specs.Prelude.{Some, None, slice_get}
 use Rattle.mb_model.specs.declared.kept.Kept.{Kept}
-use Rattle.vm_tlb.specs.Chains.{IsPath, walk, times}
-use Rattle.vm_tlb.proofs.Paths.{one, path-walk}
+use Rattle.law_links.specs.Paths.{IsPath, walk, times}
+use Rattle.law_links.proofs.Paths.{one, path-walk}
 
 pub record Counting (f : ℕ → ℕ) (kept : ℕ → Kept) (all : List ℕ) (place at left : ℕ) : Type 0 where
   pub from : ℕ
@@ -18,7 +18,7 @@ pub record Counted (f : ℕ → ℕ) (kept : ℕ → Kept) (all : List ℕ) (pla
   pub low : at < 256
   pub found : left ≡ 0 → Some (kept at) ≡ slice_get (map kept all) place
   pub goes : left ≢ 0 → Counting f kept all place (f at) (left - 1)
-  pub fewer : length (walk f 256 (f at)) < length (walk f 256 at)
+  pub fewer : length (walk 256 f 256 (f at)) < length (walk 256 f 256 at)
 
 later : (k : Kept) (ks : List Kept) (left : ℕ) → left ≢ 0 → slice_get (k ∷ ks) left ≡ slice_get ks (left - 1)
 later k ks zero d = absurd (d refl)
@@ -30,8 +30,8 @@ module _ (f : ℕ → ℕ) (kept : ℕ → Kept) (all : List ℕ) (place : ℕ) 
   count_on at left from [] led path low few same d = absurd (d (sym led ∙ path))
   count_on at left from (x ∷ tail) led path low few same d =
       let e : x ≡ at = sym path.0 ∙ led in
-      let now = path-walk f from (x ∷ tail) 256 low few path in
-      let then = path-walk f x tail 256 (λ k h. low k (omega (arith, h))) (omega (arith, few)) path.1 in
+      let now = path-walk 256 f from (x ∷ tail) 256 low few path in
+      let then = path-walk 256 f x tail 256 (λ k h. low k (omega (arith, h))) (omega (arith, few)) path.1 in
       subst (λ (n : ℕ). Counted f kept all place n left) e (record {
         low = low x (omega (arith, one x x refl));
         found = λ z. ap (slice_get (map kept (x ∷ tail))) (sym z) ∙ same;
@@ -44,7 +44,7 @@ module _ (f : ℕ → ℕ) (kept : ℕ → Kept) (all : List ℕ) (place : ℕ) 
           few = omega (arith, few);
           same = sym (later (kept x) (map kept tail) left n) ∙ same;
         };
-        fewer = rw (then, ap (walk f 256) (sym path.0) ∙ now) (omega arith);
+        fewer = rw (then, ap (walk 256 f 256) (sym path.0) ∙ now) (omega arith);
       })
 
   pub count_step : (at left : ℕ) → Counting f kept all place at left → at ≢ 256 → Counted f kept all place at left

@@ -7,9 +7,9 @@ use Rattle.std.proofs.lemmas.Bool.Decides.{nat_tests}
 use Rattle.std.proofs.lemmas.List.{length-map}
 use Rattle.mb_model.specs.declared.kept.Kept.{Kept}
 use Rattle.mb_model.specs.Keeping.{is_of, without, room_for, displaced, oldest, Apart}
-use Rattle.vm_tlb.specs.Chains.{updated, IsPath, times}
+use Rattle.law_links.specs.Paths.{updated, IsPath, times}
 use Rattle.vm_tlb.specs.Links.{Links, number_of, order, vacant, entries, IsLinked}
-use Rattle.vm_tlb.proofs.Paths.{updated_same, updated_other, one}
+use Rattle.law_links.proofs.Paths.{updated_same, updated_other, one}
 use Rattle.vm_tlb.proofs.Changes.{inside, once}
 use Rattle.vm_tlb.proofs.Finding.{place, place-none, place-some, split_at, without_one, any-none, any-some}
 

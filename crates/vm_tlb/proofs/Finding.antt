@@ -10,9 +10,11 @@ use Rattle.mb_port.specs.declared.types.Space.{Space}
 use Rattle.mb_port.specs.declared.types.Space.TheVariants.{User, Super}
 use Rattle.mb_model.specs.declared.kept.Kept.{Kept}
 use Rattle.mb_model.specs.Keeping.{same_space, is_of, entry_in, without, Apart}
-use Rattle.vm_tlb.specs.Chains.{times, chain, first_of}
+use Rattle.vm_tlb.specs.Chains.{chain, first_of}
+use Rattle.law_links.specs.Paths.{times}
 use Rattle.vm_tlb.specs.Links.{chain_of, number_of}
-use Rattle.vm_tlb.proofs.Paths.{one, none, times-append, times-here, times-chain}
+use Rattle.vm_tlb.proofs.Paths.{times-here, times-chain}
+use Rattle.law_links.proofs.Paths.{one, none, times-append}
 
 same_space-is : (a b : Space) → same_space a b ≡ true → a ≡ b
 same_space-is User User h = refl

@@ -11,9 +11,9 @@ use Rattle.mb_port.specs.declared.types.Space.{Space}
 use Rattle.mb_port.specs.declared.types.Flush.{Flush}
 use Rattle.mb_model.specs.declared.kept.Kept.{Kept}
 use Rattle.mb_model.specs.Keeping.{is_of, entry_in, covers, flushed_in, Apart}
-use Rattle.vm_tlb.specs.Chains.{IsPath, walk, times}
+use Rattle.law_links.specs.Paths.{IsPath, walk, times}
 use Rattle.vm_tlb.specs.Links.{Links, number_of, order, vacant, entries, IsLinked}
-use Rattle.vm_tlb.proofs.Paths.{one, none, times-append, last, path-split, path-end, path-walk}
+use Rattle.law_links.proofs.Paths.{one, none, times-append, last, path-split, path-end, path-walk}
 use Rattle.vm_tlb.proofs.Changes.{inside}
 use Rattle.vm_tlb.proofs.Finding.{is_of-same, one_of}
 
@@ -81,7 +81,7 @@ pub record Swept (what : Flush) (was now : Links) (at : ℕ) : Type 0 where
   pub here : order now ≡ front ++ at ∷ back
   pub goes : covers what (now.kept at) ≡ true → (then : Links) → order then ≡ front ++ back → then.kept ≡ now.kept → Sweeping what was then (now.newer at)
   pub rests : covers what (now.kept at) ≡ false → Sweeping what was now (now.newer at)
-  pub fewer : length (walk was.newer 256 (now.newer at)) < length (walk was.newer 256 at)
+  pub fewer : length (walk 256 was.newer 256 (now.newer at)) < length (walk 256 was.newer 256 at)
 
 pub leads : (f : ℕ → ℕ) (from : ℕ) (xs : List ℕ) → IsPath f from xs 256 → f from ≡ get_or xs 0 256
 leads f from [] p = p
@@ -117,8 +117,8 @@ module _ (what : Flush) (was now : Links) (linked_was : IsLinked was) (linked : 
       let count : length (x ∷ ahead) ≤ 256 = omega (arith, linked_was.all, ap length all, length-append done (x ∷ ahead)) in
       let next = leads now.newer x ahead path.1 in
       let here = path-end was.newer 256 done x past.0 in
-      let before = path-walk was.newer (last 256 done) (x ∷ ahead) 256 within count (here, past.1) in
-      let after = path-walk was.newer x ahead 256 (λ k h. within k (omega (arith, h))) (omega (arith, count)) past.1 in
+      let before = path-walk 256 was.newer (last 256 done) (x ∷ ahead) 256 within count (here, past.1) in
+      let after = path-walk 256 was.newer x ahead 256 (λ k h. within k (omega (arith, h))) (omega (arith, count)) past.1 in
       subst (Swept what was now) (sym stands) (record {
         front = front;
         back = ahead;
@@ -142,9 +142,9 @@ module _ (what : Flush) (was now : Links) (linked_was : IsLinked was) (linked : 
         };
         fewer = omega (
           arith,
-          ap (λ (n : ℕ). length (walk was.newer 256 n)) (next ∙ sym (leads was.newer x ahead past.1)),
+          ap (λ (n : ℕ). length (walk 256 was.newer 256 n)) (next ∙ sym (leads was.newer x ahead past.1)),
           ap length after,
-          ap (λ (n : ℕ). length (walk was.newer 256 n)) (sym here),
+          ap (λ (n : ℕ). length (walk 256 was.newer 256 n)) (sym here),
           ap length before,
         );
       })

@@ -3,9 +3,10 @@ use Rattle.std.proofs.Common.{◌≡◌, ◌∙◌, ℕ, ◌+◌, ◌≤◌, ◌
 use Rattle.mb_port.specs.declared.types.Space.{Space}
 use Rattle.mb_port.specs.declared.types.Space.TheVariants.{User, Super}
 use Rattle.mb_model.specs.declared.kept.Kept.{Kept}
-use Rattle.vm_tlb.specs.Chains.{updated, chain, before, Linked}
+use Rattle.vm_tlb.specs.Chains.{chain, before, Linked}
+use Rattle.law_links.specs.Paths.{updated}
 use Rattle.vm_tlb.specs.Links.{Links, chain_of, number_of, order, vacant, IsLinked}
-use Rattle.vm_tlb.proofs.Paths.{updated_same, updated_other, one, times-append, last, last_in}
+use Rattle.law_links.proofs.Paths.{updated_same, updated_other, one, times-append, last, last_in}
 use Rattle.vm_tlb.proofs.Changes.{unlinked, pushed, neighbours, inside, newest_is, ring_low}
 use Rattle.vm_tlb.proofs.Walks.{sealed, resealed}
 

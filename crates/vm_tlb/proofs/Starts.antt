@@ -5,11 +5,12 @@ use Rattle.std.specs.Prelude.{nat_lt}
 use Rattle.std.proofs.lemmas.Bool.{cases_lt, cases_eq}
 use Rattle.std.proofs.lemmas.Bool.Decides.{nat_tests}
 use Rattle.std.proofs.lemmas.List.{get_or-set_same, get_or-set_other}
-use Rattle.vm_tlb.specs.Chains.{IsPath, times, Linked}
+use Rattle.vm_tlb.specs.Chains.{Linked}
+use Rattle.law_links.specs.Paths.{IsPath, times}
 use Rattle.vm_tlb.specs.Links.{Links, links_of, number_of, no_node, entries, Sized, Sound, IsFreeBelow}
 use Rattle.vm_tlb.specs.declared.nodes.Node.{Node}
 use Rattle.vm_tlb.specs.declared.nodes.Nodes.{Nodes}
-use Rattle.vm_tlb.proofs.Paths.{one, none}
+use Rattle.law_links.proofs.Paths.{one, none}
 use Rattle.vm_tlb.proofs.Moves.{left}
 
 -- so many numbers, from one on

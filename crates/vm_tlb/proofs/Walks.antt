@@ -3,8 +3,10 @@ use Rattle.std.proofs.Common.{◌≡◌, ◌≢◌, ◌∙◌, ℕ, ◌+◌, ◌
 use Rattle.std.proofs.Common.{ap, sym, subst, refl, arith, inl, inr, length-append}
 use Rattle.std.proofs.lemmas.Bool.{cases_eq}
 use Rattle.std.proofs.lemmas.Bool.Decides.{nat_tests}
-use Rattle.vm_tlb.specs.Chains.{IsPath, walk, times, chain, first_of, before, Linked}
-use Rattle.vm_tlb.proofs.Paths.{one, none, times-here, times-chain, path-walk}
+use Rattle.vm_tlb.specs.Chains.{chain, first_of, before, Linked}
+use Rattle.law_links.specs.Paths.{IsPath, walk, times}
+use Rattle.vm_tlb.proofs.Paths.{times-here, times-chain}
+use Rattle.law_links.proofs.Paths.{one, none, path-walk}
 use Rattle.vm_tlb.proofs.Changes.{inside}
 
 length-chain : (of : ℕ → ℕ) (number : ℕ) (xs : List ℕ) → length (chain of number xs) ≤ length xs
@@ -18,13 +20,13 @@ length-chain of number (x ∷ xs) = elim (cases_eq (of x) number) [
 
 module _ (newer older next of : ℕ → ℕ) (live free : List ℕ) (linked : Linked newer older next of live free) where
   -- the walks from the roots find them
-  pub sealed : (walk newer 256 (newer 256) ≡ live) × (walk next 256 (next 320) ≡ free)
+  pub sealed : (walk 256 newer 256 (newer 256) ≡ live) × (walk 256 next 256 (next 320) ≡ free)
   sealed = (
-    path-walk newer 256 live 256 (λ k h. inside newer older next of live free linked k (omega (arith, h))) (omega (arith, linked.all)) linked.ring,
-    path-walk next 320 free 256 (λ k h. inside newer older next of live free linked k (omega (arith, h))) (omega (arith, linked.all)) linked.rest,
+    path-walk 256 newer 256 live 256 (λ k h. inside newer older next of live free linked k (omega (arith, h))) (omega (arith, linked.all)) linked.ring,
+    path-walk 256 next 320 free 256 (λ k h. inside newer older next of live free linked k (omega (arith, h))) (omega (arith, linked.all)) linked.rest,
   )
 
-  pub resealed : Linked newer older next of (walk newer 256 (newer 256)) (walk next 256 (next 320))
+  pub resealed : Linked newer older next of (walk 256 newer 256 (newer 256)) (walk 256 next 256 (next 320))
   resealed = rw (sealed.0, sealed.1) linked
 
 -- A walk stands somewhere on a path, and no node before passes.
@@ -41,7 +43,7 @@ pub record Step (f : ℕ → ℕ) (p : ℕ → Bool) (all : List ℕ) (at : ℕ)
   pub low : at < 256
   pub found : p at ≡ true → at ≡ first_of p all
   pub goes : p at ≡ false → Along f p all (f at)
-  pub fewer : length (walk f 256 (f at)) < length (walk f 256 at)
+  pub fewer : length (walk 256 f 256 (f at)) < length (walk 256 f 256 at)
 
 module _ (f : ℕ → ℕ) (p : ℕ → Bool) (all : List ℕ) where
   step_on : (at from : ℕ) (tail : List ℕ) → f from ≡ at → IsPath f from tail 256 → ((k : ℕ) → 0 < times k tail → k < 256) → length tail ≤ 256
@@ -49,8 +51,8 @@ module _ (f : ℕ → ℕ) (p : ℕ → Bool) (all : List ℕ) where
   step_on at from [] led path low few same d = absurd (d (sym led ∙ path))
   step_on at from (x ∷ tail) led path low few same d =
       let e : x ≡ at = sym path.0 ∙ led in
-      let now = path-walk f from (x ∷ tail) 256 low few path in
-      let then = path-walk f x tail 256 (λ k h. low k (omega (arith, h))) (omega (arith, few)) path.1 in
+      let now = path-walk 256 f from (x ∷ tail) 256 low few path in
+      let then = path-walk 256 f x tail 256 (λ k h. low k (omega (arith, h))) (omega (arith, few)) path.1 in
       subst (λ (n : ℕ). Step f p all n) e (record {
         low = low x (omega (arith, one x x refl));
         found = λ t. sym (rw t refl) ∙ same;
@@ -63,7 +65,7 @@ module _ (f : ℕ → ℕ) (p : ℕ → Bool) (all : List ℕ) where
           few = omega (arith, few);
           same = sym (rw t refl) ∙ same;
         };
-        fewer = rw (then, ap (walk f 256) (sym path.0) ∙ now) (omega arith);
+        fewer = rw (then, ap (walk 256 f 256) (sym path.0) ∙ now) (omega arith);
       })
 
   pub along-step : (at : ℕ) → Along f p all at → at ≢ 256 → Step f p all at
@@ -103,7 +105,7 @@ pub record Toward (f : ℕ → ℕ) (x root : ℕ) (all : List ℕ) (from at : �
 pub record Nearer (f : ℕ → ℕ) (x root : ℕ) (all : List ℕ) (at : ℕ) : Type 0 where
   pub low : at < 256
   pub goes : Toward f x root all at (f at)
-  pub fewer : length (walk f 256 (f at)) < length (walk f 256 at)
+  pub fewer : length (walk 256 f 256 (f at)) < length (walk 256 f 256 at)
 
 module _ (f : ℕ → ℕ) (x root : ℕ) (all : List ℕ) where
   nearer_on : (from at : ℕ) (tail : List ℕ) → f from ≡ at → IsPath f from tail 256 → 0 < times x tail → ((k : ℕ) → 0 < times k tail → k < 256)
@@ -114,8 +116,8 @@ module _ (f : ℕ → ℕ) (x root : ℕ) (all : List ℕ) where
       let e : y ≡ at = sym path.0 ∙ led in
       let o : y ≢ x = λ i. d (sym e ∙ i) in
       let b : (y == x) ≡ false = grind (arith, nat_tests) in
-      let now = path-walk f from (y ∷ tail) 256 low few path in
-      let then = path-walk f y tail 256 (λ k h. low k (omega (arith, h))) (omega (arith, few)) path.1 in
+      let now = path-walk 256 f from (y ∷ tail) 256 low few path in
+      let then = path-walk 256 f y tail 256 (λ k h. low k (omega (arith, h))) (omega (arith, few)) path.1 in
       let here : y < 256 = low y (omega (arith, one y y refl)) in
       subst (λ (n : ℕ). Nearer f x root all n) e (record {
         low = here;
@@ -129,7 +131,7 @@ module _ (f : ℕ → ℕ) (x root : ℕ) (all : List ℕ) where
           same = sym (rw b refl) ∙ same;
           within = omega (arith, here);
         };
-        fewer = rw (then, ap (walk f 256) (sym path.0) ∙ now) (omega arith);
+        fewer = rw (then, ap (walk 256 f 256) (sym path.0) ∙ now) (omega arith);
       })
 
   pub nearer : (from at : ℕ) → Toward f x root all from at → at ≢ x → Nearer f x root all at

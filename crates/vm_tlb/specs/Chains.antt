@@ -4,25 +4,7 @@
 use Rattle.std.specs.Prelude.{◌≡◌, ℕ, zero, suc, ◌+◌, ◌<◌, ◌==◌, Bool, nat_lt, if◌then◌else◌}
 use Rattle.std.specs.Prelude.{List, [], ◌∷◌, ◌++◌, length}
 use Rattle.vm_tlb.specs.declared.nodes.TheConstants.{CHAINS, END, FREE, NODES}
-
--- a function with another value at a number
-abbrev pub updated : {T : Type 0} → (ℕ → T) → ℕ → T → ℕ → T
-updated f at to n = if n == at then to else f n
-
--- a link leads from a place through these nodes, in order, and then to the end
-abbrev pub IsPath : (ℕ → ℕ) → ℕ → List ℕ → ℕ → Type 0
-IsPath f from [] to = f from ≡ to
-IsPath f from (x ∷ xs) to = (f from ≡ x) × IsPath f x xs to
-
--- the nodes that a link leads through, from a node on, at most so many
-unfoldable pub walk : (ℕ → ℕ) → ℕ → ℕ → List ℕ
-walk f zero at = []
-walk f (suc n) at = if nat_lt at NODES then at ∷ walk f n (f at) else []
-
--- how often a number is in a list
-abbrev pub times : ℕ → List ℕ → ℕ
-times n [] = 0
-times n (x ∷ xs) = (if x == n then 1 else 0) + times n xs
+use Rattle.law_links.specs.Paths.{IsPath, times}
 
 -- the nodes of a chain among some nodes, the last one first
 abbrev pub chain : (ℕ → ℕ) → ℕ → List ℕ → List ℕ

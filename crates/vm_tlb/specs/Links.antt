@@ -5,7 +5,8 @@ use Rattle.mb_port.specs.declared.types.Space.{Space}
 use Rattle.mb_port.specs.declared.types.Space.TheVariants.{User, Super}
 use Rattle.mb_model.specs.declared.kept.Kept.{Kept}
 use Rattle.vm_tlb.specs.declared.nodes.TheConstants.{CHAINS, END, FREE, NODES}
-use Rattle.vm_tlb.specs.Chains.{walk, Linked}
+use Rattle.vm_tlb.specs.Chains.{Linked}
+use Rattle.law_links.specs.Paths.{walk}
 use Rattle.vm_tlb.specs.declared.nodes.Node.{Node}
 use Rattle.vm_tlb.specs.declared.nodes.Nodes.{Nodes}
 
@@ -48,7 +49,7 @@ number_of kept at = chain_of (kept at).space (kept at).page
 
 -- the nodes with entries, from the oldest on by "newer"
 abbrev pub order : Links → List ℕ
-order l = walk l.newer NODES (l.newer END)
+order l = walk NODES l.newer NODES (l.newer END)
 
 -- a node has an entry
 abbrev pub IsLive : Links → ℕ → Type 0
@@ -60,7 +61,7 @@ entries l = map l.kept (order l)
 
 -- the free nodes
 abbrev pub vacant : Links → List ℕ
-vacant l = walk l.next NODES (l.next FREE)
+vacant l = walk NODES l.next NODES (l.next FREE)
 
 -- each of the first nodes is before the next in the chain of free ones
 abbrev pub IsFreeBelow : ℕ → List Node → Type 0

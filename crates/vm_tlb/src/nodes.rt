@@ -4,7 +4,8 @@ ghost use Rattle.std.specs.Prelude.{◌≡◌, ℕ, ◌+◌, ◌<◌, ◌≤◌,
 ghost use Rattle.std.specs.Prelude.{IfOk, slice_get, slice_index_or};
 ghost use Rattle.mb_model.specs.declared.kept.Kept.{Kept as KeptValue};
 ghost use Rattle.mb_model.specs.Keeping.{is_of, covers, Apart, entry_in, room_for, filled_in, displaced, flushed_in};
-ghost use Rattle.vm_tlb.specs.Chains.{updated, before as before_in, chain as chain_in, first_of};
+ghost use Rattle.vm_tlb.specs.Chains.{before as before_in, chain as chain_in, first_of};
+ghost use Rattle.law_links.specs.Paths.{updated};
 ghost use Rattle.vm_tlb.specs.Links.{links_of, chain_of as chain_number, number_of, order, vacant, entries};
 ghost use Rattle.vm_tlb.specs.Links.{IsFreeBelow, IsLive, Sized, Sound};
 

@@ -1,7 +1,9 @@
 use Rattle.std.proofs.Common.{arith, ap, ◌∙◌, ℕ, inl, inr}
 use Rattle.std.proofs.lemmas.Bool.{cases_eq}
-use Rattle.vm_shadow.specs.Area.{longs, updated}
-use Rattle.vm_shadow.proofs.Longs.{updated_same, updated_other, outside_on}
+use Rattle.vm_shadow.specs.Area.{longs}
+use Rattle.law_links.specs.Paths.{updated}
+use Rattle.vm_shadow.proofs.Longs.{outside_on}
+use Rattle.law_links.proofs.Paths.{updated_same, updated_other}
 use Rattle.vm_shadow.proofs.area.wipe.Goals as goal
 
 pub loop-index-preserved : goal.loop-index-preserved

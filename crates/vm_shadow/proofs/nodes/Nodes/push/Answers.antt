@@ -1,5 +1,5 @@
 use Rattle.std.proofs.Common.{◌≡◌, ◌∙◌, ◌+◌, ◌++◌, ◌∷◌, [], ℕ, length, ap, sym, subst, arith, length-append}
-use Rattle.vm_shadow.specs.Area.{updated}
+use Rattle.law_links.specs.Paths.{updated}
 use Rattle.vm_shadow.specs.Links.{Links, links_of, order}
 use Rattle.vm_shadow.proofs.Moves.{IsLinked, Left, put, head_left, head_low, head_new, last_low}
 use Rattle.vm_shadow.proofs.nodes.Nodes.push.Goals as goal

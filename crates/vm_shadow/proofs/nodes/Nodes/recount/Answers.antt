@@ -1,7 +1,8 @@
 use Rattle.std.proofs.Common.{◌≡◌, ◌∙◌, ◌+◌, ℕ, length, ap, sym, subst}
-use Rattle.vm_shadow.specs.Area.{updated, one}
+use Rattle.vm_shadow.specs.Area.{one}
+use Rattle.law_links.specs.Paths.{updated}
 use Rattle.vm_shadow.specs.Links.{Links, links_of, order}
-use Rattle.vm_shadow.proofs.Longs.{updated_same}
+use Rattle.law_links.proofs.Paths.{updated_same}
 use Rattle.vm_shadow.proofs.Moves.{IsLinked}
 use Rattle.vm_shadow.proofs.nodes.Nodes.recount.Goals as goal
 

@@ -1,5 +1,5 @@
 use Rattle.std.proofs.Common.{◌≡◌, ◌∙◌, ◌-◌, ◌++◌, ℕ, length, ap, sym, subst, arith}
-use Rattle.vm_shadow.specs.Area.{updated}
+use Rattle.law_links.specs.Paths.{updated}
 use Rattle.vm_shadow.specs.Links.{Links, links_of, order}
 use Rattle.vm_shadow.proofs.Moves.{IsLinked, cut, cut_left, live_inside, ends_inside, one_less}
 use Rattle.vm_shadow.proofs.nodes.Nodes.remove.Goals as goal

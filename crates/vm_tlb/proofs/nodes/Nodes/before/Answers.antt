@@ -1,8 +1,9 @@
 use Rattle.std.proofs.Common.{◌≡◌, ◌∙◌, ◌+◌, ◌<◌, ℕ, ap, sym, subst, arith, length, refl, ◌∷◌}
 use Rattle.mb_model.specs.declared.kept.Kept.{Kept}
-use Rattle.vm_tlb.specs.Chains.{chain, walk, times}
+use Rattle.vm_tlb.specs.Chains.{chain}
+use Rattle.law_links.specs.Paths.{walk, times}
 use Rattle.vm_tlb.specs.Links.{links_of, chain_of, number_of, order, vacant}
-use Rattle.vm_tlb.proofs.Paths.{one, times-append}
+use Rattle.law_links.proofs.Paths.{one, times-append}
 use Rattle.vm_tlb.proofs.Changes.{inside}
 use Rattle.vm_tlb.proofs.Walks.{Toward, nearer, arrived, toward-chain}
 use Rattle.vm_tlb.proofs.NodeReads.{node_read}
@@ -47,7 +48,7 @@ loop-next-smaller c =
     let l = links_of c.args.self.now in
     let s = nearer _ _ _ _ c.loop-next.before c.loop-next.next c.loop-next.invariant c.loop-next-test.true in
     let r = node_read c.args.self.now c.loop-next.next c.index-in-loop-next.result.now c.requires.sound.0 s.low c.index-in-loop-next.ensures in
-    subst (λ (n : ℕ). length (walk l.next 256 n) < length (walk l.next 256 c.loop-next.next)) r.next s.fewer
+    subst (λ (n : ℕ). length (walk 256 l.next 256 n) < length (walk 256 l.next 256 c.loop-next.next)) r.next s.fewer
 
 pub loop-next-preserved : goal.loop-next-preserved
 loop-next-preserved c =

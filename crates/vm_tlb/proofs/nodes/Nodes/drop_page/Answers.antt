@@ -1,6 +1,6 @@
 use Rattle.std.proofs.Common.{◌≡◌, ◌∙◌, ◌<◌, ℕ, List, true, false, ap, sym, subst, arith, map}
 use Rattle.mb_model.specs.Keeping.{is_of, covers, flushed_in, Apart}
-use Rattle.vm_tlb.specs.Chains.{times}
+use Rattle.law_links.specs.Paths.{times}
 use Rattle.vm_tlb.specs.Links.{links_of, number_of, order, vacant}
 use Rattle.vm_tlb.proofs.Changes.{inside}
 use Rattle.vm_tlb.proofs.Finding.{place-none, place-some, split_at}

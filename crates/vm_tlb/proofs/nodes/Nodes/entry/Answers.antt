@@ -1,5 +1,5 @@
 use Rattle.std.proofs.Common.{◌∙◌, ◌-◌, ◌<◌, ℕ, Some, ap, sym, subst, arith, refl, length}
-use Rattle.vm_tlb.specs.Chains.{walk}
+use Rattle.law_links.specs.Paths.{walk}
 use Rattle.vm_tlb.specs.Links.{links_of, number_of, order, vacant}
 use Rattle.vm_tlb.proofs.Changes.{inside}
 use Rattle.vm_tlb.proofs.Counts.{Counting, count_step, count_past}
@@ -36,7 +36,7 @@ loop-at-smaller c =
     let l = links_of c.args.self.now in
     let s = count_step _ _ _ _ c.loop-at.at c.loop-at.left c.loop-at.invariant c.loop-at-test.true in
     let r = node_read c.args.self.now c.loop-at.at c.index-node.result.now c.requires.0 s.low c.index-node.ensures in
-    subst (λ (n : ℕ). length (walk l.newer 256 n) < length (walk l.newer 256 c.loop-at.at)) r.newer s.fewer
+    subst (λ (n : ℕ). length (walk 256 l.newer 256 n) < length (walk 256 l.newer 256 c.loop-at.at)) r.newer s.fewer
 
 pub loop-at-preserved : goal.loop-at-preserved
 loop-at-preserved c =

@@ -1,6 +1,7 @@
 use Rattle.std.proofs.Common.{◌∙◌, ◌+◌, ◌<◌, ℕ, ap, sym, subst, arith, length}
 use Rattle.mb_model.specs.Keeping.{is_of}
-use Rattle.vm_tlb.specs.Chains.{chain, walk}
+use Rattle.vm_tlb.specs.Chains.{chain}
+use Rattle.law_links.specs.Paths.{walk}
 use Rattle.vm_tlb.specs.Links.{links_of, chain_of, number_of, order, vacant}
 use Rattle.vm_tlb.proofs.Walks.{Along, along-step, along-end, along-chain}
 use Rattle.vm_tlb.proofs.NodeReads.{node_read}
@@ -25,7 +26,7 @@ loop-at-smaller c =
     let l = links_of c.args.self.now in
     let s = along-step _ _ _ c.loop-at.at c.loop-at.invariant c.loop-at-test.true in
     let r = node_read c.args.self.now c.loop-at.at c.index-node.result.now c.requires.0 s.low c.index-node.ensures in
-    subst (λ (n : ℕ). length (walk l.next 256 n) < length (walk l.next 256 c.loop-at.at)) r.next s.fewer
+    subst (λ (n : ℕ). length (walk 256 l.next 256 n) < length (walk 256 l.next 256 c.loop-at.at)) r.next s.fewer
 
 pub loop-at-preserved : goal.loop-at-preserved
 loop-at-preserved c =

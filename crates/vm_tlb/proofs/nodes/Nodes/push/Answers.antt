@@ -1,5 +1,5 @@
 use Rattle.std.proofs.Common.{◌≡◌, ◌∙◌, ◌+◌, ◌≤◌, ℕ, List, [], ◌∷◌, ◌++◌, ap, sym, subst, arith}
-use Rattle.vm_tlb.specs.Chains.{updated}
+use Rattle.law_links.specs.Paths.{updated}
 use Rattle.vm_tlb.specs.Links.{Links, links_of, chain_of, order, vacant, IsLinked}
 use Rattle.vm_tlb.proofs.Moves.{Left, puts, put, put_left, first_free, free_low, newest_low}
 use Rattle.vm_tlb.proofs.nodes.Nodes.push.Goals as goal

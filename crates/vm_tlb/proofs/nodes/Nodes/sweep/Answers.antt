@@ -1,6 +1,6 @@
 use Rattle.std.proofs.Common.{◌≡◌, ◌∙◌, ◌<◌, ℕ, [], true, false, ap, sym, subst, refl, arith, length}
 use Rattle.mb_model.specs.Keeping.{covers}
-use Rattle.vm_tlb.specs.Chains.{walk}
+use Rattle.law_links.specs.Paths.{walk}
 use Rattle.vm_tlb.specs.Links.{links_of, order}
 use Rattle.vm_tlb.proofs.Flushes.{Sweeping, swept, swept_all, leads}
 use Rattle.vm_tlb.proofs.NodeReads.{node_read}
@@ -35,7 +35,7 @@ loop-at-smaller-then-is_covered c =
     let l = links_of c.args.self.now in
     let s = swept c.args.what l (links_of c.loop-at.self) c.requires.1 i.sound.1 c.loop-at.at i.swept c.loop-at-test.true in
     let r = node_read c.loop-at.self c.loop-at.at c.index.result.now i.sound.0 s.low c.index.ensures in
-    subst (λ (n : ℕ). length (walk l.newer 256 n) < length (walk l.newer 256 c.loop-at.at)) r.newer s.fewer
+    subst (λ (n : ℕ). length (walk 256 l.newer 256 n) < length (walk 256 l.newer 256 c.loop-at.at)) r.newer s.fewer
 
 pub loop-at-preserved-then-is_covered : goal.loop-at-preserved-then-is_covered
 loop-at-preserved-then-is_covered c =
@@ -56,7 +56,7 @@ loop-at-smaller c =
     let l = links_of c.args.self.now in
     let s = swept c.args.what l (links_of c.loop-at.self) c.requires.1 i.sound.1 c.loop-at.at i.swept c.loop-at-test.true in
     let r = node_read c.loop-at.self c.loop-at.at c.index.result.now i.sound.0 s.low c.index.ensures in
-    subst (λ (n : ℕ). length (walk l.newer 256 n) < length (walk l.newer 256 c.loop-at.at)) r.newer s.fewer
+    subst (λ (n : ℕ). length (walk 256 l.newer 256 n) < length (walk 256 l.newer 256 c.loop-at.at)) r.newer s.fewer
 
 pub loop-at-preserved : goal.loop-at-preserved
 loop-at-preserved c =

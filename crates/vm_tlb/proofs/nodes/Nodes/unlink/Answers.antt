@@ -1,5 +1,5 @@
 use Rattle.std.proofs.Common.{◌≡◌, ◌∙◌, ◌≤◌, ℕ, ap, sym, subst, arith}
-use Rattle.vm_tlb.specs.Chains.{updated}
+use Rattle.law_links.specs.Paths.{updated}
 use Rattle.vm_tlb.specs.Links.{Links, links_of, order, IsLinked}
 use Rattle.vm_tlb.proofs.NodeReads.{Reads, node_read}
 use Rattle.vm_tlb.proofs.Moves.{cut, cut_left, live_inside, ends_low}

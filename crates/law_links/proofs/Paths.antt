@@ -1,11 +1,16 @@
 -- Paths of links, and what a write leaves of them.
 use Rattle.std.proofs.Common.{◌≡◌, ◌≢◌, ◌∙◌, ℕ, zero, suc, ◌+◌, ◌≤◌, ◌<◌, ◌==◌, Bool, true, false, cond, List, [], ◌∷◌, ◌++◌, length}
-use Rattle.std.proofs.Common.{ap, subst, refl, arith, append-nil}
+use Rattle.std.proofs.Common.{ap, sym, subst, refl, arith, inl, inr, append-nil, append_assoc}
 use Rattle.std.specs.Prelude.{nat_lt}
+use Rattle.std.proofs.lemmas.Bool.{cases_eq}
 use Rattle.std.proofs.lemmas.Bool.Decides.{nat_tests}
-use Rattle.vm_shadow.specs.Area.{updated}
-use Rattle.vm_shadow.specs.Chains.{IsPath, walk, times}
-use Rattle.vm_shadow.proofs.Longs.{updated_same, updated_other}
+use Rattle.law_links.specs.Paths.{updated, IsPath, walk, times}
+
+pub updated_same : {T : Type 0} (f : ℕ → T) (at : ℕ) (to : T) → updated f at to at ≡ to
+updated_same f at to = let b : (at == at) ≡ true = grind (arith, nat_tests) in ap (λ (b : Bool). cond b to (f at)) b
+
+pub updated_other : {T : Type 0} (f : ℕ → T) (at : ℕ) (to : T) (n : ℕ) → n ≢ at → updated f at to n ≡ f n
+updated_other f at to n d = let b : (n == at) ≡ false = grind (arith, nat_tests) in ap (λ (b : Bool). cond b to (f n)) b
 
 pub one : (x n : ℕ) → x ≡ n → ◌≡◌ {A = ℕ} (cond (x == n) 1 0) 1
 one x n e = let b : (x == n) ≡ true = grind (arith, nat_tests) in ap (λ (b : Bool). cond b 1 0) b
@@ -49,16 +54,16 @@ module _ (f : ℕ → ℕ) where
   path-end from (x ∷ xs) to p = path-end x xs to p.1
 
   -- a path with its end turned elsewhere
-  pub path-turn : (from : ℕ) (xs : List ℕ) (to v : ℕ)
-      → ((n : ℕ) → times n (from ∷ xs) ≤ 1) → IsPath f from xs to → IsPath (updated f (last from xs) v) from xs v
+  pub path-turn : (from : ℕ) (xs : List ℕ) (to v : ℕ) → ((n : ℕ) → times n (from ∷ xs) ≤ 1) → IsPath f from xs to
+      → IsPath (updated f (last from xs) v) from xs v
   path-turn from [] to v once p = updated_same f from v
   path-turn from (x ∷ xs) to v once p =
       let apart : from ≢ last x xs = λ e. absurd (omega (arith, once (last x xs), last_in x xs, one from (last x xs) e)) in
       (updated_other f (last x xs) v from apart ∙ p.0, path-turn x xs to v (λ n. omega (arith, once n)) p.1)
 
 -- a node is skipped
-pub path-skip : (f : ℕ → ℕ) (from : ℕ) (xs : List ℕ) (x : ℕ) (ys : List ℕ) (to : ℕ)
-    → ((n : ℕ) → times n (from ∷ (xs ++ x ∷ ys)) ≤ 1) → IsPath f from (xs ++ x ∷ ys) to
+pub path-skip : (f : ℕ → ℕ) (from : ℕ) (xs : List ℕ) (x : ℕ) (ys : List ℕ) (to : ℕ) → ((n : ℕ) → times n (from ∷ (xs ++ x ∷ ys)) ≤ 1)
+    → IsPath f from (xs ++ x ∷ ys) to
     → IsPath (updated f (last from xs) (f x)) from (xs ++ ys) to
 path-skip f from xs x [] to once p =
     let s = path-split f from xs x [] to p in
@@ -94,14 +99,14 @@ path-last f root xs to n once d z p =
     let g = updated f (last root xs) n in
     path-join (updated g n to) root xs n [] to (path-kept g n to root xs n d z (path-turn f root xs to n once p)) (updated_same g n to)
 
--- a path of slots alone is what its walk meets
-pub path-walk : (f : ℕ → ℕ) (from : ℕ) (xs : List ℕ) (n : ℕ)
-    → ((k : ℕ) → 0 < times k xs → k < 126) → length xs ≤ n → IsPath f from xs 126 → walk f n (f from) ≡ xs
+-- a path that stays below the end is what its walk meets
+pub path-walk : (end : ℕ) (f : ℕ → ℕ) (from : ℕ) (xs : List ℕ) (n : ℕ) → ((k : ℕ) → 0 < times k xs → k < end) → length xs ≤ n → IsPath f from xs end
+    → walk end f n (f from) ≡ xs
 unfolding walk
-path-walk f from [] zero low few p = refl
-path-walk f from [] (suc n) low few p = rw p refl
-path-walk f from (x ∷ xs) zero low few p = absurd (omega (arith, few))
-path-walk f from (x ∷ xs) (suc n) low few p =
-    let l : x < 126 = low x (omega (arith, one x x refl)) in
-    let b : nat_lt x 126 ≡ true = grind (arith, nat_tests) in
-    rw (p.0, b) (ap (λ (ys : List ℕ). x ∷ ys) (path-walk f x xs n (λ k h. low k (omega (arith, h))) (omega (arith, few)) p.1))
+path-walk end f from [] zero low few p = refl
+path-walk end f from [] (suc n) low few p = let b : nat_lt end end ≡ false = grind (arith, nat_tests) in rw (p, b) refl
+path-walk end f from (x ∷ xs) zero low few p = absurd (omega (arith, few))
+path-walk end f from (x ∷ xs) (suc n) low few p =
+    let l : x < end = low x (omega (arith, one x x refl)) in
+    let b : nat_lt x end ≡ true = grind (arith, nat_tests) in
+    rw (p.0, b) (ap (λ (ys : List ℕ). x ∷ ys) (path-walk end f x xs n (λ k h. low k (omega (arith, h))) (omega (arith, few)) p.1))
