@@ -8,7 +8,7 @@ use Rattle.mb_script.specs.declared.fault.LineWhy.{LineWhy}
 use Rattle.mb_script.specs.declared.fault.LineWhy.TheVariants as why
 use Rattle.mb_script.specs.declared.plan.GuestPlan.{GuestPlan}
 use Rattle.mb_script.specs.Answers.{guest_said}
-use Rattle.mb_script.specs.Plan.{AreRams, Disk, Guest, HasDisk, IsBlocks, IsRam}
+use Rattle.mb_script.specs.Plan.{AreRams, Disk, Guest, HasDisk, IsRam}
 use Rattle.mb_script.specs.Sessions.{equipped}
 
 -- with a disk, unless it has one

@@ -7,3 +7,4 @@ pub mod Entries
 pub mod Rams
 pub mod Enough
 pub mod Disks
+pub mod InRuns

@@ -1,5 +1,5 @@
 -- How an answer of the code stands to what a definition gives.
-use Rattle.std.specs.Prelude.{◌≡◌, ℕ, List, [], ◌∷◌, length, map, option_map, string_bytes, Result, Ok, Err}
+use Rattle.std.specs.Prelude.{◌≡◌, ℕ, List, [], ◌∷◌, ◌++◌, length, map, option_map, string_bytes, Result, Ok, Err}
 use denote.Ref.{Bor}
 use Rattle.mb_script.specs.declared.fault.LineFault.{LineFault}
 use Rattle.mb_script.specs.declared.fault.LineFault.TheVariants.{Memory, Line}
@@ -71,7 +71,9 @@ parts_said parts = record { step = parts.step.now; written = written_said parts.
 
 -- what is due, as inputs
 abbrev pub due_said : Due → List Input
-due_said (due.Bytes bytes) = scripts.typed bytes.items
+due_said (due.Spelled bytes) = scripts.typed bytes.items
+due_said (due.Text text) = scripts.typed text.now
+due_said (due.WithLineFeed text) = scripts.typed (text.now ++ 10 ∷ [])
 due_said due.Abort = input.Abort ∷ []
 
 abbrev pub arrival_said : Arrival → scripts.Arrival

@@ -6,3 +6,5 @@ pub mod Plan
 pub mod Sessions
 pub mod Answers
 pub mod Faults
+pub mod Runs
+pub mod Kept

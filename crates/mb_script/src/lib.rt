@@ -12,6 +12,7 @@ mod fault;
 mod input;
 mod number;
 mod plan;
+mod runs;
 mod script;
 mod script_line;
 mod script_reading;

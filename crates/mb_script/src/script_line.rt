@@ -8,7 +8,7 @@ ghost use Rattle.hex.specs.Hex.{decode_of};
 ghost use Rattle.mb_script.specs.declared.fault.LineWhy.TheVariants as why;
 ghost use Rattle.mb_script.specs.Words.{cut_at_space, is_space, is_word};
 ghost use Rattle.mb_script.specs.Scripts.{arrival_of, inputs_of, is_printable, parts_of, printable, written_as};
-ghost use Rattle.mb_script.specs.Answers.{GivesAlone, arrival_said, cut_said, due_said, parts_said, written_len, written_said};
+ghost use Rattle.mb_script.specs.Answers.{GivesAlone, arrival_said, bytes_said, cut_said, due_said, parts_said, written_len, written_said};
 
 use crate::arrival::{Arrival, Due};
 use crate::fault::{LineWhy, Refusal};
@@ -37,9 +37,9 @@ struct Parts<'a> {
 }
 
 /// What arrives by a line.
-pub(crate) fn arrival_of(alloc: Global, line: &[u8]) -> Result<Arrival, Refusal>
-    ensures given { GivesAlone arrival_said result (arrival_of line.now) }
-    ensures short { IfOk result (λ arrival. length (due_said arrival.due) ≤ length line.now) }
+pub(crate) fn arrival_of<'a>(alloc: Global, line: &'a [u8]) -> Result<Arrival<'a>, Refusal>
+    ensures given { GivesAlone arrival_said result (arrival_of line.entry.now) }
+    ensures short { IfOk result (λ arrival. length (due_said arrival.due) ≤ length line.entry.now) }
 {
     let Some(parts) = parts_of(line) else {
         return Err(Refusal::Why(LineWhy::Word));
@@ -49,6 +49,17 @@ pub(crate) fn arrival_of(alloc: Global, line: &[u8]) -> Result<Arrival, Refusal>
     };
     let due = due_of(alloc, parts.written)?;
     Ok(Arrival { step, due })
+}
+
+/// How many entries a line makes, where it has the words of one.
+pub(crate) fn entries_in(line: &[u8]) -> Option<usize> {
+    let entries = match parts_of(line)?.written {
+        Written::Hex(digits) => digits.len() / 2,
+        Written::Text(text) => text.len(),
+        Written::WithLineFeed(text) => text.len() + 1,
+        Written::Abort => 1,
+    };
+    Some(entries)
 }
 
 /// What comes before the first space, and what comes after it.
@@ -118,18 +129,14 @@ fn written_as(words: &[u8]) -> Option<Written<'_>>
 }
 
 /// What the line lets arrive.
-fn due_of(alloc: Global, written: Written) -> Result<Due, Refusal>
+fn due_of<'a>(alloc: Global, written: Written<'a>) -> Result<Due<'a>, Refusal>
     ensures given { GivesAlone due_said result (ok_or (inputs_of (written_said written.entry)) why.Digits) }
     ensures short { IfOk result (λ due. length (due_said due) ≤ written_len written.entry + 1) }
 {
     match written {
-        Written::Hex(digits) => Ok(Due::Bytes(bytes_of_pairs(alloc, digits)?)),
-        Written::Text(text) => Ok(Due::Bytes(printable(alloc, text)?)),
-        Written::WithLineFeed(text) => {
-            let mut bytes = printable(alloc, text)?;
-            bytes.push(b'\n')?;
-            Ok(Due::Bytes(bytes))
-        }
+        Written::Hex(digits) => Ok(Due::Spelled(bytes_of_pairs(alloc, digits)?)),
+        Written::Text(text) => Ok(Due::Text(printable(text)?)),
+        Written::WithLineFeed(text) => Ok(Due::WithLineFeed(printable(text)?)),
         Written::Abort => Ok(Due::Abort),
     }
 }
@@ -148,14 +155,15 @@ fn bytes_of_pairs(alloc: Global, digits: &[u8]) -> Result<Vec<u8>, Refusal>
 }
 
 /// A text of bytes from $20 to $7E.
-fn printable(alloc: Global, text: &[u8]) -> Result<Vec<u8>, Refusal>
-    ensures given { GivesAlone (λ bytes. bytes.items) result (ok_or (printable text.now) why.Digits) }
-    ensures short { IfOk result (λ bytes. length bytes.items ≤ length text.now) }
+fn printable<'a>(text: &'a [u8]) -> Result<&'a [u8], Refusal>
+    ensures given { GivesAlone bytes_said result (ok_or (printable text.entry.now) why.Digits) }
+    ensures short { IfOk result (λ bytes. length bytes.now ≤ length text.entry.now) }
 {
-    if !are_printable(text) {
-        return Err(Refusal::Why(LineWhy::Digits));
+    if are_printable(text) {
+        Ok(text)
+    } else {
+        Err(Refusal::Why(LineWhy::Digits))
     }
-    Ok(Vec::from_slice(alloc, text)?)
 }
 
 fn are_printable(text: &[u8]) -> bool

@@ -1,4 +1,4 @@
-use Rattle.std.proofs.Common.{◌≡◌, ◌∙◌, List, length, map, get_or, set, true, false, ap, sym, subst}
+use Rattle.std.proofs.Common.{◌≡◌, ◌∙◌, get_or, true, false, ap, sym, subst}
 use Rattle.std.specs.Prelude.{is_some}
 use Rattle.mb_script.specs.declared.plan.GuestPlan.{GuestPlan}
 use Rattle.mb_script.specs.Answers.{disk_said, guest_said}
