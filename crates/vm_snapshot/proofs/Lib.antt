@@ -29,3 +29,7 @@ pub mod Lawful
 pub mod KeptSteps
 pub mod GuestSteps
 pub mod DiskSteps
+pub mod SavedLines
+pub mod ShownGuests
+pub mod ShownTexts
+pub mod Faults

@@ -7,6 +7,7 @@ ghost use Rattle.mb_outside.specs.Prints.{Prints};
 ghost use Rattle.mb_report.specs.Buffered.{Buffers};
 ghost use Rattle.mb_report.specs.Kept.{kept_line};
 ghost use Rattle.vm_snapshot.specs.Runs.{lines_of};
+ghost use Rattle.vm_snapshot.specs.Shown.{head_text};
 ghost use Rattle.vm_snapshot.specs.Texts.{above, front_text, guest_text, machine_text};
 
 use crate::counts::write_count;
@@ -16,6 +17,19 @@ use mb_outside::{Sink, SinkFault};
 use mb_report::{Buffered, write_kept, write_outcome};
 use mb_script::Script;
 use vm_disk::{Disk, write_disk};
+
+/// Writes the first lines of a snapshot: the board's memory in KiB, the steps of a turn, and how many guests there are.
+pub fn write_head<O: Sink>(board: u32, slice: u32, guests: u8, out: &mut O) -> Result<(), SinkFault>
+    ensures { Prints (O.taken out.old) (O.taken out.new) (O.faults out.old) (O.faults out.new)
+        (head_text board slice guests) result }
+{
+    let mut text = Buffered::new();
+    text.add(out, b"snapshot 1\n");
+    write_count(&mut text, out, b"board", u64::from(board));
+    write_count(&mut text, out, b"slice", u64::from(slice));
+    write_count(&mut text, out, b"guests", u64::from(guests));
+    text.finish(out)
+}
 
 /// Writes the lines of what is kept.
 fn write_all_kept<O: Sink>(text: &mut Buffered, out: &mut O, kept: &[Kept])

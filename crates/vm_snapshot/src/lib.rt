@@ -1,11 +1,12 @@
 //! Snapshots.
 #![tactic(auto)]
 
-ghost use Rattle.vm_snapshot.specs.Laws.{SnapshotsAreRead};
+ghost use Rattle.vm_snapshot.specs.Laws.{FaultsAreOne, SnapshotsAreRead};
 ghost use Rattle.vm_snapshot.specs.Runs.{LinesSayEntries, LinesAreRuns, RunsAreLines};
 ghost use Rattle.vm_snapshot.specs.Dumps.{DumpsAreRows};
 ghost use Rattle.vm_snapshot.specs.Fronts.{DisksAreWritten, FrontsAreWritten};
 ghost use Rattle.vm_snapshot.specs.Scripts.{InputsAreScripts};
+ghost use Rattle.vm_snapshot.specs.Shown.{GuestsAreTold, TextsSayOnePlan};
 ghost use Rattle.vm_snapshot.specs.Memories.{LinesAreMemory};
 ghost use Rattle.vm_snapshot.specs.Outcomes.{OutcomesAreWritten};
 
@@ -28,13 +29,14 @@ mod refusal;
 mod register_reading;
 mod told;
 
-pub use guest_writing::write_guest;
+pub use guest_writing::{write_guest, write_head};
 pub use plan::{SnapFault, SnapGuest, SnapPlan};
 pub use reading::read_snapshot;
 
 /// A snapshot's text is read back, and of every other text the first line is told up to which it begins none.
 pub fn snapshots_are_read()
-    ensures { SnapshotsAreRead }
+    ensures read { SnapshotsAreRead }
+    ensures faults { FaultsAreOne }
 {}
 
 /// The lines of input that are written for entries of a script say these entries, and no other lines do.
@@ -53,4 +55,11 @@ pub fn texts_are_the_same()
     ensures outcomes { OutcomesAreWritten }
     ensures fronts { FrontsAreWritten }
     ensures disks { DisksAreWritten }
+{}
+
+/// What is written of guests of which a snapshot can be written is one, which says just these; and a text says one plan
+/// alone.
+pub fn guests_are_told()
+    ensures told { GuestsAreTold }
+    ensures once { TextsSayOnePlan }
 {}
