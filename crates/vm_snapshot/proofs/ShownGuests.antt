@@ -1,10 +1,10 @@
 -- A guest of which a snapshot can be written has lawful lines.
 use Rattle.std.proofs.Common.{◌≡◌, ◌∙◌, ℕ, zero, suc, ◌+◌, ◌-◌, ◌*◌, ◌/◌, ◌%◌, ◌^◌, ◌≤◌, ◌<◌, ◌==◌, max, min, not, eqb, ltb, Bool, true, false, List, [], ◌∷◌, ◌++◌, length, refl, ap, sym, subst, inl, inr, arith}
-use Rattle.std.specs.Prelude.{All, nat_lt, None, bit_and}
+use Rattle.std.specs.Prelude.{All, IfSome, nat_lt, None, bit_and, slice_get, slice_index, slice_index_or}
 use Rattle.std.specs.Int.{from_bool}
 use Rattle.std.specs.List.{AllByRecursion, AllPairs, filter, list_any}
 use Rattle.std.proofs.lemmas.Bool.{cases_Bool, cases_lt, and_from, le-leb, eq-eqb, eqb-false, eqb-true, ltb-true, ne_eqb}
-use Rattle.std.proofs.lemmas.List.Elements.{All-head, All-tail, All-filter, recursion_from_All}
+use Rattle.std.proofs.lemmas.List.Elements.{All-head, All-tail, All-filter, All-weaker, recursion_from_All}
 use Rattle.std.proofs.lemmas.List.Folds.{list_any-append}
 use Rattle.std.proofs.lemmas.List.Sums.{count_by-le-length, length-filter}
 use Rattle.std.proofs.lemmas.Nat.Bits.{and_high_mask}
@@ -27,14 +27,14 @@ use Rattle.mb_spelling.specs.Spelling.{before, chosen}
 use Rattle.mb_walk.specs.Memory.{AreBytes}
 use Rattle.vm_disk.specs.Disk.{DiskState, blocks_in}
 use Rattle.vm_snapshot.specs.Fronts.{disk_of}
-use Rattle.vm_snapshot.specs.Guests.{Front, Guest, bit, count, counts_64, devices, disk, front, guest, rams, registers, rows_in, states, status, steps_below}
+use Rattle.vm_snapshot.specs.Guests.{Front, Guest, address_registers, bit, control_registers, count, counts_64, data_registers, devices, disk, front, guest, longs, rams, registers, rows_in, states, status, steps_below, translation_registers}
 use Rattle.vm_snapshot.specs.Inputs.{Abort, Bytes, Due, InputLine, MOST, byte, counts_32}
 use Rattle.vm_snapshot.specs.Memory.{dump_byte, next_column}
 use Rattle.vm_snapshot.specs.Outcomes.{devices_of, lines_in, progress_of, registers_of}
 use Rattle.vm_snapshot.specs.Pages.{kept_counts, kept_line, kept_lines, with_kept}
 use Rattle.vm_snapshot.specs.Runs.{byte_before, entries_of, entry_before, joined_to, lines_of}
 use Rattle.vm_snapshot.specs.Scripts.{FitLines, InOrder, IsInput}
-use Rattle.vm_snapshot.specs.Shown.{CanBeTold, HasBlocks, HasEntries, HasWidths, IsInputOfBytes, ShownGuest, saved_in}
+use Rattle.vm_snapshot.specs.Shown.{CanBeTold, HasBlocks, HasEntries, HasWidths, IsEntry, IsInputOfBytes, ShownGuest, saved_in}
 use Rattle.vm_snapshot.specs.Texts.{above}
 use Rattle.vm_snapshot.proofs.Runs.{lines_are_runs, lines_say}
 use Rattle.vm_snapshot.proofs.SavedLines.{rows_lawful}
@@ -197,7 +197,7 @@ lines_fit (entry ∷ entries) h =
 pub is_input : (steps : ℕ) (script : Entries) → HasEntries script → IsInput (lines_of (above steps script))
 is_input steps script h =
     let test = λ (entry : Entry). nat_lt steps entry.step in
-    let order = kept_in_steps test 0 script (in_steps 0 script (λ k d inside. omega arith) h.lawful.from_one h.steps h.lawful.in_order) in
+    let order = kept_in_steps test 0 script (in_steps 0 script (λ k d inside. omega arith) h.lawful.from_one (All-weaker IsEntry (λ (entry : Entry). entry.step < 2 ^ 32) (λ entry is. is.0) script h.entries) h.lawful.in_order) in
     let kept = length-filter test script in
     let most = count_by-le-length test script in
     let few = h.lawful.few in
@@ -206,8 +206,15 @@ is_input steps script h =
       runs = lines_are_runs (above steps script);
       order = lines_order 0 (above steps script) order;
       few = omega arith;
-      fit = lines_fit (above steps script) (All-filter test (λ (entry : Entry). IsInputOfBytes entry.input) script h.inputs);
+      fit = lines_fit (above steps script) (All-filter test (λ (entry : Entry). IsInputOfBytes entry.input) script
+          (All-weaker IsEntry (λ (entry : Entry). IsInputOfBytes entry.input) (λ entry is. is.1) script h.entries));
     }
+
+pub entry_at : (script : Entries) (place : ℕ) (d : Entry) → place < length script → IfSome (slice_get script place) IsEntry
+    → IsEntry (slice_index_or script place d)
+entry_at [] place d inside is = absurd (omega arith)
+entry_at (entry ∷ script) zero d inside is = is
+entry_at (entry ∷ script) (suc place) d inside is = entry_at script place d (omega arith) is
 
 -- the first line is of a later step
 FirstAbove : (steps : ℕ) → List InputLine → Type 0
@@ -274,23 +281,116 @@ masked_long mask n small e =
     let whole : mask / 16 ^ 0 ≡ mask = omega arith in
     (long_fits n small, eq-eqb (bit_and n (mask / 16 ^ 0)) n (ap (bit_and n) whole ∙ e))
 
+-- the registers in a row
+tabulate : ℕ → (ℕ → ℕ) → List ℕ
+tabulate zero f = []
+tabulate (suc n) f = f 0 ∷ tabulate n (λ i. f (suc i))
+
+tabulated : (n : ℕ) (values : List ℕ) → length values ≡ n → tabulate n (slice_index values) ≡ values
+unfolding tabulate
+tabulated zero [] e = refl
+tabulated zero (value ∷ values) e = absurd (omega arith)
+tabulated (suc n) [] e = absurd (omega arith)
+tabulated (suc n) (value ∷ values) e = ap (λ (l : List ℕ). value ∷ l) (tabulated n values (omega arith))
+
+pub data_values_are : (seen : Seen) → HasWidths seen → (registers_of seen).data_values ≡ seen.cpu.regs.d
+unfolding tabulate
+data_values_are seen h = tabulated 8 seen.cpu.regs.d h.data_count
+
+pub address_values_are : (seen : Seen) → HasWidths seen → (registers_of seen).address_values ≡ seen.cpu.regs.a
+unfolding tabulate
+address_values_are seen h = tabulated 7 seen.cpu.regs.a h.address_count
+
 registers_lawful : (kept : List Kept) (seen : Seen) → HasWidths seen → IsLawful (saved_in kept seen) → registers.IsLawful (registers_of seen)
 registers_lawful kept seen h l =
     let P = λ (n : ℕ). n < 2 ^ 32 in
-    let d : AllByRecursion P (registers_of seen).data_values = recursion_from_All P (registers_of seen).data_values h.data_registers in
-    let a : AllByRecursion P (registers_of seen).address_values = recursion_from_All P (registers_of seen).address_values h.address_registers in
+    let data_longs = subst (All P) (sym (data_values_are seen h)) h.data_registers in
+    let address_longs = subst (All P) (sym (address_values_are seen h)) h.address_registers in
+    let d : AllByRecursion P (registers_of seen).data_values = recursion_from_All P (registers_of seen).data_values data_longs in
+    let a : AllByRecursion P (registers_of seen).address_values = recursion_from_All P (registers_of seen).address_values address_longs in
     let c : AllByRecursion P (registers_of seen).control_values = recursion_from_All P (registers_of seen).control_values h.control_registers in
     let t : AllByRecursion P (registers_of seen).translation_values = recursion_from_All P (registers_of seen).translation_values h.translation_registers in
-    let bits = l.bits in (
-      (any_long _ d.0, (any_long _ d.1.0, (any_long _ d.1.1.0, (any_long _ d.1.1.1.0, (any_long _ d.1.1.1.1.0, (any_long _ d.1.1.1.1.1.0, (any_long _ d.1.1.1.1.1.1.0, (any_long _ d.1.1.1.1.1.1.1.0, tt)))))))),
+    let bits = l.bits in
+    let d_lawful : (longs data_registers).IsLawful (registers_of seen).data_values = (
+      any_long _ d.0,
       (
-        (any_long _ a.0, (any_long _ a.1.0, (any_long _ a.1.1.0, (any_long _ a.1.1.1.0, (any_long _ a.1.1.1.1.0, (any_long _ a.1.1.1.1.1.0, (any_long _ a.1.1.1.1.1.1.0, tt))))))),
+        any_long _ d.1.0,
         (
-          (any_long _ c.0, (any_long _ c.1.0, (any_long _ c.1.1.0, (any_long _ c.1.1.1.0, (masked_long 0xF71F _ c.1.1.1.1.0 bits.status, (any_long _ c.1.1.1.1.1.0, (masked_long 0x7 _ c.1.1.1.1.1.1.0 bits.source, (masked_long 0x7 _ c.1.1.1.1.1.1.1.0 bits.destination, (masked_long 0x80008000 _ c.1.1.1.1.1.1.1.1.0 bits.caches, tt))))))))),
-          (masked_long 0xC000 _ t.0 (bits.translation Tc), (masked_long 0xFFFFE364 _ t.1.0 (bits.translation Itt0), (masked_long 0xFFFFE364 _ t.1.1.0 (bits.translation Itt1), (masked_long 0xFFFFE364 _ t.1.1.1.0 (bits.translation Dtt0), (masked_long 0xFFFFE364 _ t.1.1.1.1.0 (bits.translation Dtt1), (masked_long 0xFFFFFFF7 _ t.1.1.1.1.1.0 (bits.translation Mmusr), (masked_long 0xFFFFFE00 _ t.1.1.1.1.1.1.0 (bits.translation Urp), (masked_long 0xFFFFFE00 _ t.1.1.1.1.1.1.1.0 (bits.translation Srp), tt)))))))),
+          any_long _ d.1.1.0,
+          (
+            any_long _ d.1.1.1.0,
+            (
+              any_long _ d.1.1.1.1.0,
+              (
+                any_long _ d.1.1.1.1.1.0,
+                (
+                  any_long _ d.1.1.1.1.1.1.0,
+                  (
+                    any_long _ d.1.1.1.1.1.1.1.0,
+                    tt,
+                  ),
+                ),
+              ),
+            ),
+          ),
         ),
       ),
-    )
+    ) in
+    let a_lawful : (longs address_registers).IsLawful (registers_of seen).address_values = (
+      any_long _ a.0,
+      (
+        any_long _ a.1.0,
+        (
+          any_long _ a.1.1.0,
+          (any_long _ a.1.1.1.0, (any_long _ a.1.1.1.1.0, (any_long _ a.1.1.1.1.1.0, (any_long _ a.1.1.1.1.1.1.0, tt)))),
+        ),
+      ),
+    ) in
+    let c_lawful : (longs control_registers).IsLawful (registers_of seen).control_values = (
+      any_long _ c.0,
+      (
+        any_long _ c.1.0,
+        (
+          any_long _ c.1.1.0,
+          (
+            any_long _ c.1.1.1.0,
+            (
+              masked_long 0xF71F _ c.1.1.1.1.0 bits.status,
+              (
+                any_long _ c.1.1.1.1.1.0,
+                (
+                  masked_long 0x7 _ c.1.1.1.1.1.1.0 bits.source,
+                  (masked_long 0x7 _ c.1.1.1.1.1.1.1.0 bits.destination, (masked_long 0x80008000 _ c.1.1.1.1.1.1.1.1.0 bits.caches, tt)),
+                ),
+              ),
+            ),
+          ),
+        ),
+      ),
+    ) in
+    let t_lawful : (longs translation_registers).IsLawful (registers_of seen).translation_values = (
+      masked_long 0xC000 _ t.0 (bits.translation Tc),
+      (
+        masked_long 0xFFFFE364 _ t.1.0 (bits.translation Itt0),
+        (
+          masked_long 0xFFFFE364 _ t.1.1.0 (bits.translation Itt1),
+          (
+            masked_long 0xFFFFE364 _ t.1.1.1.0 (bits.translation Dtt0),
+            (
+              masked_long 0xFFFFE364 _ t.1.1.1.1.0 (bits.translation Dtt1),
+              (
+                masked_long 0xFFFFFFF7 _ t.1.1.1.1.1.0 (bits.translation Mmusr),
+                (
+                  masked_long 0xFFFFFE00 _ t.1.1.1.1.1.1.0 (bits.translation Urp),
+                  (masked_long 0xFFFFFE00 _ t.1.1.1.1.1.1.1.0 (bits.translation Srp), tt),
+                ),
+              ),
+            ),
+          ),
+        ),
+      ),
+    ) in
+    (d_lawful, (a_lawful, (c_lawful, t_lawful)))
 
 bit_long : (n : ℕ) → n < 2 → (n / 16 ^ 8 ≡ 0) × (bit 0 n ≡ true)
 bit_long zero small = (omega arith, refl)

@@ -1,6 +1,6 @@
 -- What is written of guests of which a snapshot can be written is one, and it says these.
 use Rattle.std.proofs.Common.{◌≡◌, ◌∙◌, ℕ, zero, suc, ◌+◌, ◌*◌, ◌/◌, ◌<◌, ◌==◌, Bool, true, false, List, [], ◌∷◌, ◌++◌, length, map, refl, ap, sym, subst, append_assoc, arith}
-use Rattle.std.specs.Prelude.{All, Option, Some, None, IfSome, Result, Ok, Err, codes, decimal, option_map, pred, replicate, slice_index}
+use Rattle.std.specs.Prelude.{All, Option, Some, None, IfSome, Result, Ok, Err, codes, decimal, option_map, pred, replicate}
 use Rattle.std.specs.Int.{from_bool}
 use Rattle.std.proofs.lemmas.List.{length-map}
 use Rattle.std.proofs.lemmas.List.Elements.{All-head, All-tail, recursion_from_All}
@@ -37,7 +37,7 @@ use Rattle.vm_snapshot.proofs.Guests.{snapshot_spells}
 use Rattle.vm_snapshot.proofs.Outcomes.{glue, named_text, outcomes_are_written}
 use Rattle.vm_snapshot.proofs.Runs.{lines_say}
 use Rattle.vm_snapshot.proofs.SavedLines.{ram_back, rows_are_lines}
-use Rattle.vm_snapshot.proofs.ShownGuests.{disk_lawful, front_lawful, front_of, guest_lawful, guest_of, in_from, kib_of, whole}
+use Rattle.vm_snapshot.proofs.ShownGuests.{address_values_are, data_values_are, disk_lawful, front_lawful, front_of, guest_lawful, guest_of, in_from, kib_of, whole}
 
 -- ---- the text
 
@@ -88,29 +88,17 @@ chain_lawful (suc more) i (g ∷ list) e h =
 
 -- ---- what it says
 
-tabulate : ℕ → (ℕ → ℕ) → List ℕ
-tabulate zero f = []
-tabulate (suc n) f = f 0 ∷ tabulate n (λ i. f (suc i))
-
-tabulated : (n : ℕ) (values : List ℕ) → length values ≡ n → tabulate n (slice_index values) ≡ values
-unfolding tabulate
-tabulated zero [] e = refl
-tabulated zero (value ∷ values) e = absurd (omega arith)
-tabulated (suc n) [] e = absurd (omega arith)
-tabulated (suc n) (value ∷ values) e = ap (λ (l : List ℕ). value ∷ l) (tabulated n values (omega arith))
-
 abbrev with_parts : List ℕ → List ℕ → ℕ → List RamLine → Saved → Saved
 with_parts d a ram lines s = record s { ram = ram; cpu = record s.cpu { regs = record s.cpu.regs { d = d; a = a } }; lines = lines }
 
 saved_is : (g : ShownGuest) → CanBeTold g → plans.saved_of (guest_of g) ≡ saved_in g.kept g.seen
-unfolding tabulate
 saved_is g t =
     let seen = g.seen in
     let s = saved_in g.kept seen in
     let rows = 64 * kib_of seen in
     let size = whole g t in
-    let d : (guest_of g).registers.data_values ≡ seen.cpu.regs.d = tabulated 8 seen.cpu.regs.d t.widths.data_count in
-    let a : (guest_of g).registers.address_values ≡ seen.cpu.regs.a = tabulated 7 seen.cpu.regs.a t.widths.address_count in
+    let d : (guest_of g).registers.data_values ≡ seen.cpu.regs.d = data_values_are seen t.widths in
+    let a : (guest_of g).registers.address_values ≡ seen.cpu.regs.a = address_values_are seen t.widths in
     let lines : rows_of 0 rows seen.ram ≡ saving.lines_of seen.ram =
     rows_are_lines rows seen.ram ∙ ap (first_lines seen.ram) (let e : rows ≡ length seen.ram / 16 = omega arith in e) in
     ap (λ (l : List ℕ). with_parts l (guest_of g).registers.address_values (1024 * kib_of seen) (rows_of 0 rows seen.ram) s) d

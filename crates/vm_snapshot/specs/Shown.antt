@@ -81,8 +81,8 @@ AreLongs values = All (λ value. value < 2 ^ 32) values
 pub record HasWidths (seen : Seen) : Type 0 where
   pub data_count : length seen.cpu.regs.d ≡ 8
   pub address_count : length seen.cpu.regs.a ≡ 7
-  pub data_registers : AreLongs (registers_of seen).data_values
-  pub address_registers : AreLongs (registers_of seen).address_values
+  pub data_registers : AreLongs seen.cpu.regs.d
+  pub address_registers : AreLongs seen.cpu.regs.a
   pub control_registers : AreLongs (registers_of seen).control_values
   pub translation_registers : AreLongs (registers_of seen).translation_values
   pub steps : seen.steps < 2 ^ 32
@@ -96,11 +96,13 @@ abbrev pub IsInputOfBytes : Input → Type 0
 IsInputOfBytes (input.Byte byte) = byte < 2 ^ 8
 IsInputOfBytes input.Abort = Unit {0}
 
--- A script has steps of 32 bits, and bytes.
+-- An entry has a step of 32 bits, and a byte where it has one.
+abbrev pub IsEntry : Entry → Type 0
+IsEntry entry = (entry.step < 2 ^ 32) × IsInputOfBytes entry.input
+
 pub record HasEntries (script : Entries) : Type 0 where
   pub lawful : IsScript script
-  pub steps : All (λ entry. entry.step < 2 ^ 32) script
-  pub inputs : All (λ entry. IsInputOfBytes entry.input) script
+  pub entries : All IsEntry script
 
 -- A disk has a block's number of 32 bits, and bytes.
 pub record HasBlocks (d : DiskState) : Type 0 where

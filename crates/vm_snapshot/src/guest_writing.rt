@@ -4,14 +4,16 @@ ghost use Rattle.std.specs.Prelude.{◌≡◌, ◌/◌, ◌%◌, ◌≤◌, ◌^
 ghost use Rattle.std.specs.List.{flat_map};
 ghost use Rattle.mb_model.specs.Seen.{seen_of};
 ghost use Rattle.mb_outside.specs.Prints.{Prints};
+ghost use Rattle.mb_saved.specs.Saved.{IsLawful};
 ghost use Rattle.mb_report.specs.Buffered.{Buffers};
 ghost use Rattle.mb_report.specs.Kept.{kept_line};
 ghost use Rattle.vm_snapshot.specs.Runs.{lines_of};
-ghost use Rattle.vm_snapshot.specs.Shown.{head_text};
+ghost use Rattle.vm_snapshot.specs.Shown.{head_text, saved_in, CanBeTold, HasEntries};
 ghost use Rattle.vm_snapshot.specs.Texts.{above, front_text, guest_text, machine_text};
 
 use crate::counts::write_count;
 use crate::input_writing::{line_count, write_input};
+use crate::widths::{disk_widths, outcome_widths};
 use mb_model::{Kept, Outcome};
 use mb_outside::{Sink, SinkFault};
 use mb_report::{Buffered, write_kept, write_outcome};
@@ -49,8 +51,9 @@ fn write_front<O: Sink>(
     steps: u32,
     out: &mut O,
 ) -> Result<(), SinkFault>
-    ensures { Prints (O.taken out.old) (O.taken out.new) (O.faults out.old) (O.faults out.new)
+    ensures prints { Prints (O.taken out.old) (O.taken out.new) (O.faults out.old) (O.faults out.new)
         (front_text ram kept.now (lines_of (above steps script.now))) result }
+    ensures entries { HasEntries script.now }
 {
     let mut text = Buffered::new();
     write_count(&mut text, out, b"ram", u64::from(ram));
@@ -99,10 +102,18 @@ pub fn write_guest<O: Sink>(
 ) -> Result<(), SinkFault>
     requires whole { ram % 1024 ≡ 0 }
     requires ram { length (seen_of o.now).ram ≡ ram }
-    ensures { Prints (O.taken out.old) (O.taken out.new) (O.faults out.old) (O.faults out.new)
+    ensures prints { Prints (O.taken out.old) (O.taken out.new) (O.faults out.old) (O.faults out.new)
         (guest_text guest (ram / 1024) kept.now script.now (seen_of o.now)
         (option_map (λ d. d.now) disk.entry)) result }
+    ensures told { IsLawful (saved_in kept.now (seen_of o.now)) → CanBeTold (record {
+      kept = kept.now;
+      script = script.now;
+      seen = seen_of o.now;
+      disk = option_map (λ d. d.now) disk.entry;
+    }) }
 {
+    outcome_widths(o);
+    disk_widths(disk);
     write_front(ram / 1024, kept, script, o.steps, out)?;
     write_machine(guest, o, disk, out)
 }

@@ -1,9 +1,10 @@
 //! Writing lines of input.
 
-ghost use Rattle.std.specs.Prelude.{◌≡◌, ◌≤◌, ◌++◌, false, length, slice_get, codes, decimal};
+ghost use Rattle.std.specs.Prelude.{◌≡◌, ◌≤◌, ◌++◌, false, length, slice_get, codes, decimal, IfSome};
 ghost use Rattle.std.specs.List.{flat_map};
 ghost use Rattle.mb_report.specs.Buffered.{Buffers};
 ghost use Rattle.vm_snapshot.specs.Runs.{lines_of};
+ghost use Rattle.vm_snapshot.specs.Shown.{HasEntries, IsEntry};
 ghost use Rattle.vm_snapshot.specs.Texts.{above, input_text};
 ghost use Rattle.vm_snapshot.specs.Writing.{byte_text, closing, count_at, entry_text, is_within as within, later_count, later_open, later_text, open_at as left_open, text_at};
 
@@ -98,6 +99,7 @@ fn open_behind(steps: u32, begun: Option<u32>, entry: Entry) -> Option<u32>
 fn lines_begun(steps: u32, begun: Option<u32>, entry: Entry) -> u32
     ensures value { result ≡ later_count steps begun entry }
     ensures small { result ≤ 1 }
+    ensures entry { IsEntry entry }
 {
     if entry.step <= steps {
         return 0;
@@ -138,6 +140,7 @@ fn open_at(script: &Script, steps: u32, begun: Option<u32>, place: u32) -> Optio
 fn lines_at(script: &Script, steps: u32, begun: Option<u32>, place: u32) -> u32
     ensures value { result ≡ count_at steps begun (slice_get script.now place) }
     ensures small { result ≤ 1 }
+    ensures entry { IfSome (slice_get script.now place) IsEntry }
 {
     match script.entry(place) {
         Some(entry) => lines_begun(steps, begun, entry),
@@ -164,7 +167,8 @@ fn write_at<O: Sink>(
 
 /// How many lines there are for the entries of later steps.
 pub(crate) fn line_count(script: &Script, steps: u32) -> u32
-    ensures { result ≡ length (lines_of (above steps script.now)) }
+    ensures count { result ≡ length (lines_of (above steps script.now)) }
+    ensures entries { HasEntries script.now }
 {
     let mut begun = None;
     let mut lines = 0;

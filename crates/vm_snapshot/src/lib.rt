@@ -28,6 +28,7 @@ mod reading;
 mod refusal;
 mod register_reading;
 mod told;
+mod widths;
 
 pub use guest_writing::{write_guest, write_head};
 pub use plan::{SnapFault, SnapGuest, SnapPlan};
