@@ -4,3 +4,4 @@ pub mod Copies
 pub mod Moves
 pub mod Goings
 pub mod Flows
+pub mod Changes

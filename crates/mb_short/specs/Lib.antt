@@ -1,4 +1,5 @@
 pub mod Always
+pub mod Changed
 pub mod Moved
 pub mod Operands
 pub mod Updates

@@ -4,6 +4,8 @@ ghost use Rattle.std.specs.Prelude.{◌<◌, false};
 ghost use Rattle.mb_instr.specs.declared.operand.Ea.TheVariants.{Disp};
 ghost use Rattle.mb_instr.specs.declared.instruction.Instr.TheVariants as instr;
 ghost use Rattle.mb_instr.specs.declared.instruction.Move.TheVariants as move_row;
+ghost use Rattle.mb_short.specs.declared.changed.Changed.TheVariants.{Address};
+ghost use Rattle.mb_short.specs.Changed.{Differ};
 ghost use Rattle.mb_short.specs.Taken.{Goes};
 
 use crate::places::{near, pass_two};
@@ -12,7 +14,7 @@ use mb_port::{Port, Space};
 
 /// LEA at PC of an operand (d16,An), whose displacement is the second word.
 #[inline(always)]
-#[tactic(auto, using(crate::proofs::Flows::flows))]
+#[tactic(auto, using(crate::proofs::Flows::flows, crate::proofs::Changes::changes))]
 pub(crate) fn load_near<P: Port>(
     register: u8,
     base: u8,
@@ -23,8 +25,9 @@ pub(crate) fn load_near<P: Port>(
 )
     requires register { register < 8 }
     requires base { base < 8 }
-    ensures { Goes P.bus (instr.Move (move_row.Lea register (Disp base displacement))) 2 space plain.old
+    ensures means { Goes P.bus (instr.Move (move_row.Lea register (Disp base displacement))) 2 space plain.old
         (P.world port.now) false plain.new (P.world port.now) }
+    ensures differ { Differ (Address register) plain.old plain.new }
 {
     plain.a[register as usize] = near(base, displacement, plain);
     pass_two(plain);

@@ -10,6 +10,8 @@ ghost use Rattle.def_instructions.specs.Ends.{carried};
 ghost use Rattle.def_instructions.specs.Rows.{row_of};
 ghost use Rattle.def_instructions.specs.Unary.{put_in_register_of, negated, complemented};
 ghost use Rattle.mb_table.specs.Forms.{change_of};
+ghost use Rattle.mb_short.specs.declared.changed.Changed.TheVariants.{Data};
+ghost use Rattle.mb_short.specs.Changed.{Differ};
 ghost use Rattle.mb_short.specs.Taken.{Goes};
 
 use crate::places::pass_one;
@@ -74,15 +76,16 @@ fn complement(size: Size, register: u8, plain: &mut Plain)
 /// Carries out the row of the instruction. PC is past its word already.
 #[rattlefmt::skip]
 #[inline(always)]
-#[tactic(auto, using(crate::proofs::Moves::rows), unfolding(
+#[tactic(auto, using(crate::proofs::Moves::rows, crate::proofs::Changes::changes), unfolding(
     def_instructions::specs::Arithmetic::combine_quick_of,
     def_instructions::specs::Arithmetic::combine_either_way_of,
     def_instructions::specs::Arithmetic::chain_of,
 ))]
 fn carry_out<P: Port>(change: Change, size: Size, n: u8, at: u32, space: Space, plain: &mut Plain, port: &P)
     requires { IsInstr (change_of change size n) }
-    ensures { run P.bus (row_of (change_of change size n) at space plain.old) (P.world port.now)
+    ensures means { run P.bus (row_of (change_of change size n) at space plain.old) (P.world port.now)
         ≡ (carried plain.new, P.world port.now) }
+    ensures differ { Differ (Data n) plain.old plain.new }
 {
     match change {
         Change::Clear => move_to(n, size, 0, plain),
@@ -114,8 +117,9 @@ pub(crate) fn change_register<P: Port>(
     port: &P,
 )
     requires { IsInstr (change_of change size register) }
-    ensures { Goes P.bus (change_of change size register) 1 space plain.old (P.world port.now) false plain.new
+    ensures means { Goes P.bus (change_of change size register) 1 space plain.old (P.world port.now) false plain.new
         (P.world port.now) }
+    ensures differ { Differ (Data register) plain.old plain.new }
 {
     let at = plain.pc;
     pass_one(plain);

@@ -4,6 +4,8 @@ ghost use Rattle.std.specs.Prelude.{◌≡◌, IfSome, IfNone};
 ghost use Rattle.mb_instr.specs.declared.operand.Ea.TheVariants.{Disp};
 ghost use Rattle.mb_instr.specs.Codes.{IsInstr};
 ghost use Rattle.mb_table.specs.Forms.{copy_of, place_ea};
+ghost use Rattle.mb_short.specs.declared.changed.Changed.TheVariants.{Nothing};
+ghost use Rattle.mb_short.specs.Changed.{with_step, Differ};
 ghost use Rattle.mb_short.specs.Taken.{Goes};
 
 use crate::places::{address, near, pass_two, step_over};
@@ -16,7 +18,7 @@ use mb_table::Place;
 /// A MOVE at PC of an operand (d16,An), whose displacement is the second word, where both are known at once. Else
 /// nothing has changed.
 #[inline(always)]
-#[tactic(auto, using(crate::proofs::Copies::copying))]
+#[tactic(auto, using(crate::proofs::Copies::copying, crate::proofs::Changes::steps))]
 pub(crate) fn copy_near<P: Port>(
     size: Size,
     base: u8,
@@ -29,6 +31,7 @@ pub(crate) fn copy_near<P: Port>(
     requires { IsInstr (copy_of size (place_ea place) (Disp base displacement)) }
     ensures done { IfSome result (λ flow. Goes P.bus (copy_of size (place_ea place) (Disp base displacement)) 2 space
         plain.old (P.world port.old) flow plain.new (P.world port.new)) }
+    ensures differ { IfSome result (λ flow. Differ (with_step place Nothing) plain.old plain.new) }
     ensures undone { IfNone result (plain.new ≡ plain.old) }
     ensures same { IfNone result (P.world port.new ≡ P.world port.old) }
     ensures rest { P.rest port.new ≡ P.rest port.old }

@@ -8,6 +8,7 @@
 
 mod addresses;
 mod branches;
+mod changed;
 mod changing;
 mod copying;
 mod performing;
@@ -18,4 +19,5 @@ mod stack;
 mod taking;
 mod updating;
 
+pub use changed::{Changed, changed_by};
 pub use performing::perform_short;

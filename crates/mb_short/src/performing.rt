@@ -4,6 +4,7 @@ ghost use Rattle.std.specs.Prelude.{◌≡◌, ◌%◌, ◌^◌, ◌<◌, true, 
 ghost use Rattle.mb_instr.specs.Codes.{IsInstr};
 ghost use Rattle.mb_table.specs.Short.{meaning, meaning_with};
 ghost use Rattle.mb_short.specs.Always.{asks_nothing, is_of_registers_by_parts};
+ghost use Rattle.mb_short.specs.Changed.{changed_of, Differ};
 ghost use Rattle.mb_short.specs.Taken.{Comes, IsDone};
 
 use crate::addresses::load_near;
@@ -38,6 +39,7 @@ fn perform_pair<P: Port>(short: &Short, space: Space, plain: &mut Plain, port: &
     requires valid_with { (word : _) → word < 2 ^ 16 → IfSome (meaning_with word short.now) IsInstr }
     ensures done { IfSome result (λ flow.
         IsDone P.bus short.now space plain.old (P.world port.old) flow plain.new (P.world port.new)) }
+    ensures differ { IfSome result (λ flow. Differ (changed_of short.now) plain.old plain.new) }
     ensures undone { IfNone result (plain.new ≡ plain.old) }
     ensures same { IfNone result (P.world port.new ≡ P.world port.old) }
     ensures rest { P.rest port.new ≡ P.rest port.old }
@@ -68,6 +70,7 @@ fn perform_rarer<P: Port>(short: &Short, space: Space, plain: &mut Plain, port: 
     requires valid_with { (word : _) → word < 2 ^ 16 → IfSome (meaning_with word short.now) IsInstr }
     ensures done { IfSome result (λ flow.
         IsDone P.bus short.now space plain.old (P.world port.old) flow plain.new (P.world port.new)) }
+    ensures differ { IfSome result (λ flow. Differ (changed_of short.now) plain.old plain.new) }
     ensures undone { IfNone result (plain.new ≡ plain.old) }
     ensures same { IfNone result (P.world port.new ≡ P.world port.old) }
     ensures always { is_of_registers_by_parts short.now ≡ true → IsSome result }
@@ -110,6 +113,7 @@ pub fn perform_short<P: Port, const COPY: usize>(
     requires valid_with { (word : _) → word < 2 ^ 16 → IfSome (meaning_with word short.now) IsInstr }
     ensures done { IfSome result (λ flow.
         IsDone P.bus short.now space plain.old (P.world port.old) flow plain.new (P.world port.new)) }
+    ensures differ { IfSome result (λ flow. Differ (changed_of short.now) plain.old plain.new) }
     ensures undone { IfNone result (plain.new ≡ plain.old) }
     ensures same { IfNone result (P.world port.new ≡ P.world port.old) }
     ensures always { asks_nothing short.now ≡ true → IsSome result }

@@ -4,6 +4,8 @@ ghost use Rattle.std.specs.Prelude.{◌≡◌, IfSome, IfNone};
 ghost use Rattle.mb_instr.specs.declared.operand.Ea.TheVariants.{Disp};
 ghost use Rattle.mb_instr.specs.Codes.{IsInstr};
 ghost use Rattle.mb_table.specs.Forms.{putting_of, place_ea};
+ghost use Rattle.mb_short.specs.declared.changed.Changed.TheVariants.{Nothing};
+ghost use Rattle.mb_short.specs.Changed.{with_step, Differ};
 ghost use Rattle.mb_short.specs.Operands.{HasSource, put_value};
 ghost use Rattle.mb_short.specs.Taken.{Goes};
 
@@ -29,7 +31,7 @@ fn value_of(putting: Putting, size: Size, plain: &Plain) -> u32
 
 /// An instruction at PC that writes to memory, where that is done at once. Else nothing has changed.
 #[inline(always)]
-#[tactic(auto, using(crate::proofs::Operands::operands))]
+#[tactic(auto, using(crate::proofs::Operands::operands, crate::proofs::Changes::steps))]
 pub(crate) fn put_memory<P: Port>(
     putting: Putting,
     size: Size,
@@ -41,6 +43,7 @@ pub(crate) fn put_memory<P: Port>(
     requires { IsInstr (putting_of putting size (place_ea place)) }
     ensures done { IfSome result (λ flow. Goes P.bus (putting_of putting size (place_ea place)) 1 space plain.old
         (P.world port.old) flow plain.new (P.world port.new)) }
+    ensures differ { IfSome result (λ flow. Differ (with_step place Nothing) plain.old plain.new) }
     ensures undone { IfNone result (plain.new ≡ plain.old) }
     ensures same { IfNone result (P.world port.new ≡ P.world port.old) }
     ensures rest { P.rest port.new ≡ P.rest port.old }
@@ -71,6 +74,7 @@ pub(crate) fn put_near<P: Port>(
     requires { IsInstr (putting_of putting size (Disp base displacement)) }
     ensures done { IfSome result (λ flow. Goes P.bus (putting_of putting size (Disp base displacement)) 2 space
         plain.old (P.world port.old) flow plain.new (P.world port.new)) }
+    ensures differ { IfSome result (λ flow. Differ Nothing plain.old plain.new) }
     ensures undone { IfNone result (plain.new ≡ plain.old) }
     ensures same { IfNone result (P.world port.new ≡ P.world port.old) }
     ensures rest { P.rest port.new ≡ P.rest port.old }

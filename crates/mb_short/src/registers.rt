@@ -5,6 +5,7 @@ ghost use Rattle.mb_instr.specs.Codes.{IsInstr};
 ghost use Rattle.def_instructions.specs.Moves.{move_flags, swap_of};
 ghost use Rattle.mb_table.specs.Short.{meaning};
 ghost use Rattle.mb_short.specs.Always.{is_of_registers};
+ghost use Rattle.mb_short.specs.Changed.{changed_of, Differ};
 ghost use Rattle.mb_short.specs.Moved.{moved_to};
 ghost use Rattle.mb_short.specs.Taken.{GoesBy, RowBy};
 
@@ -64,7 +65,7 @@ fn swap(register: u8, plain: &mut Plain)
 /// Carries out the row of the instruction. PC is past its word already.
 #[rattlefmt::skip]
 #[inline(always)]
-#[tactic(auto, using(crate::proofs::Moves::rows), unfolding(
+#[tactic(auto, using(crate::proofs::Moves::rows, crate::proofs::Changes::changes), unfolding(
     def_instructions::specs::Arithmetic::combine_quick_of,
     def_instructions::specs::Arithmetic::combine_either_way_of,
 ))]
@@ -72,6 +73,7 @@ fn carry_out<P: Port, const COPY: usize>(short: &Short, at: u32, space: Space, p
     requires valid { IfSome (meaning short.now) IsInstr }
     ensures done { result ≡ true
         → RowBy P.bus (meaning short.now) at space plain.old (P.world port.now) plain.new }
+    ensures differ { result ≡ true → Differ (changed_of short.now) plain.old plain.new }
     ensures undone { result ≡ false → plain.new ≡ plain.old }
     ensures always { result ≡ is_of_registers short.now }
 {
@@ -121,6 +123,7 @@ pub(crate) fn perform_in_registers<P: Port, const COPY: usize>(
     requires { IfSome (meaning short.now) IsInstr }
     ensures done { IfSome result (λ flow. GoesBy P.bus (meaning short.now) 1 space plain.old (P.world port.now) flow
         plain.new (P.world port.now)) }
+    ensures differ { IfSome result (λ flow. Differ (changed_of short.now) plain.old plain.new) }
     ensures undone { IfNone result (plain.new ≡ plain.old) }
     ensures always { is_some result ≡ is_of_registers short.now }
 {

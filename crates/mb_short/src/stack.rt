@@ -10,6 +10,8 @@ ghost use Rattle.mb_instr.specs.declared.instruction.Move.TheVariants as move_ro
 ghost use Rattle.def_instructions.specs.Ends.{went};
 ghost use Rattle.def_instructions.specs.Flow.{call_of};
 ghost use Rattle.def_instructions.specs.Stack.{link_of};
+ghost use Rattle.mb_short.specs.declared.changed.Changed.TheVariants.{Address};
+ghost use Rattle.mb_short.specs.Changed.{Differ};
 ghost use Rattle.mb_short.specs.Taken.{Goes};
 
 use crate::places::{pass_one, pass_two};
@@ -21,6 +23,7 @@ use mb_port::{Port, Space};
 /// Pushes the next instruction's address, at which PC is in `after`, and goes to the target, where that is done at
 /// once. Else nothing has changed.
 #[inline(always)]
+#[tactic(auto, using(crate::proofs::Changes::changes))]
 fn call<P: Port>(
     target: u32,
     after: Plain,
@@ -30,6 +33,7 @@ fn call<P: Port>(
 ) -> Option<bool>
     ensures done { IfSome result (λ flow. run P.bus (call_of target space after) (P.world port.old)
         ≡ (went flow plain.new, P.world port.new)) }
+    ensures differ { IfSome result (λ flow. Differ (Address 7) after plain.new) }
     ensures undone { IfNone result (plain.new ≡ plain.old) }
     ensures same { IfNone result (P.world port.new ≡ P.world port.old) }
     ensures rest { P.rest port.new ≡ P.rest port.old }
@@ -58,6 +62,7 @@ pub(crate) fn call_near<P: Port>(
     ensures done { IfSome result (λ flow.
         Goes P.bus (instr.Flow (flow_row.Bcc condition.False (displacement_in.Byte displacement))) 1 space plain.old
         (P.world port.old) flow plain.new (P.world port.new)) }
+    ensures differ { IfSome result (λ flow. Differ (Address 7) plain.old plain.new) }
     ensures undone { IfNone result (plain.new ≡ plain.old) }
     ensures same { IfNone result (P.world port.new ≡ P.world port.old) }
     ensures rest { P.rest port.new ≡ P.rest port.old }
@@ -80,6 +85,7 @@ pub(crate) fn call_far<P: Port>(
     ensures done { IfSome result (λ flow.
         Goes P.bus (instr.Flow (flow_row.Bcc condition.False (displacement_in.Word displacement))) 2 space plain.old
         (P.world port.old) flow plain.new (P.world port.new)) }
+    ensures differ { IfSome result (λ flow. Differ (Address 7) plain.old plain.new) }
     ensures undone { IfNone result (plain.new ≡ plain.old) }
     ensures same { IfNone result (P.world port.new ≡ P.world port.old) }
     ensures rest { P.rest port.new ≡ P.rest port.old }
@@ -92,10 +98,11 @@ pub(crate) fn call_far<P: Port>(
 
 /// RTS at PC.
 #[inline(always)]
-#[tactic(auto, using(crate::proofs::Flows::flows))]
+#[tactic(auto, using(crate::proofs::Flows::flows, crate::proofs::Changes::changes))]
 pub(crate) fn return_from<P: Port>(space: Space, plain: &mut Plain, port: &P) -> Option<bool>
     ensures done { IfSome result (λ flow. Goes P.bus (instr.Flow flow_row.Rts) 1 space plain.old (P.world port.now)
         flow plain.new (P.world port.now)) }
+    ensures differ { IfSome result (λ flow. Differ (Address 7) plain.old plain.new) }
     ensures undone { IfNone result (plain.new ≡ plain.old) }
 {
     let target = read_at_once(space, plain.a[7], Size::Long, port)?;

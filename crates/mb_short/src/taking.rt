@@ -5,6 +5,7 @@ ghost use Rattle.mb_instr.specs.declared.operand.Ea.TheVariants.{Disp};
 ghost use Rattle.mb_instr.specs.Codes.{IsInstr};
 ghost use Rattle.mb_instr.specs.Operands.{lower};
 ghost use Rattle.mb_table.specs.Forms.{taking_of, register_ea, place_ea};
+ghost use Rattle.mb_short.specs.Changed.{taken_in, with_step, Differ};
 ghost use Rattle.mb_short.specs.Operands.{HasRegister, taken_by, register_value};
 ghost use Rattle.mb_short.specs.Taken.{Goes};
 
@@ -54,7 +55,7 @@ fn value_of(register: Register, plain: &Plain) -> u32
 
 /// An instruction at PC that reads a register.
 #[inline(always)]
-#[tactic(auto, using(crate::proofs::Operands::operands))]
+#[tactic(auto, using(crate::proofs::Operands::operands, crate::proofs::Changes::changes))]
 pub(crate) fn take_register<P: Port>(
     taking: Taking,
     size: Size,
@@ -64,8 +65,9 @@ pub(crate) fn take_register<P: Port>(
     port: &P,
 )
     requires { IsInstr (taking_of taking size (register_ea register)) }
-    ensures { Goes P.bus (taking_of taking size (register_ea register)) 1 space plain.old (P.world port.now) false
-        plain.new (P.world port.now) }
+    ensures means { Goes P.bus (taking_of taking size (register_ea register)) 1 space plain.old (P.world port.now)
+        false plain.new (P.world port.now) }
+    ensures differ { Differ (taken_in taking) plain.old plain.new }
 {
     let value = size.low(value_of(register, plain));
     pass_one(plain);
@@ -74,7 +76,7 @@ pub(crate) fn take_register<P: Port>(
 
 /// An instruction at PC that reads memory, where the operand is known at once. Else nothing has changed.
 #[inline(always)]
-#[tactic(auto, using(crate::proofs::Operands::operands))]
+#[tactic(auto, using(crate::proofs::Operands::operands, crate::proofs::Changes::changes))]
 pub(crate) fn take_memory<P: Port>(
     taking: Taking,
     size: Size,
@@ -86,6 +88,7 @@ pub(crate) fn take_memory<P: Port>(
     requires { IsInstr (taking_of taking size (place_ea place)) }
     ensures done { IfSome result (λ flow. Goes P.bus (taking_of taking size (place_ea place)) 1 space plain.old
         (P.world port.now) flow plain.new (P.world port.now)) }
+    ensures differ { IfSome result (λ flow. Differ (with_step place (taken_in taking)) plain.old plain.new) }
     ensures undone { IfNone result (plain.new ≡ plain.old) }
 {
     let value = read_at_once(space, address(place, size, plain), size, port)?;
@@ -97,7 +100,7 @@ pub(crate) fn take_memory<P: Port>(
 
 /// The same with an operand (d16,An), whose displacement is the second word.
 #[inline(always)]
-#[tactic(auto, using(crate::proofs::Operands::operands))]
+#[tactic(auto, using(crate::proofs::Operands::operands, crate::proofs::Changes::changes))]
 pub(crate) fn take_near<P: Port>(
     taking: Taking,
     size: Size,
@@ -110,6 +113,7 @@ pub(crate) fn take_near<P: Port>(
     requires { IsInstr (taking_of taking size (Disp base displacement)) }
     ensures done { IfSome result (λ flow. Goes P.bus (taking_of taking size (Disp base displacement)) 2 space plain.old
         (P.world port.now) flow plain.new (P.world port.now)) }
+    ensures differ { IfSome result (λ flow. Differ (taken_in taking) plain.old plain.new) }
     ensures undone { IfNone result (plain.new ≡ plain.old) }
 {
     let value = read_at_once(space, near(base, displacement, plain), size, port)?;

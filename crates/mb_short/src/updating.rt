@@ -6,6 +6,8 @@ ghost use Rattle.mb_instr.specs.Codes.{IsInstr};
 ghost use Rattle.mb_instr.specs.Registers.{data_register};
 ghost use Rattle.mb_instr.specs.Sizes.{low_of};
 ghost use Rattle.mb_table.specs.Forms.{update_of, place_ea};
+ghost use Rattle.mb_short.specs.declared.changed.Changed.TheVariants.{Nothing};
+ghost use Rattle.mb_short.specs.Changed.{with_step, Differ};
 ghost use Rattle.mb_short.specs.Updates.{HasData, updated_by};
 ghost use Rattle.mb_short.specs.Taken.{Goes};
 
@@ -47,7 +49,7 @@ fn updated(update: Update, size: Size, value: u32, plain: &Plain) -> Flagged
 
 /// An instruction at PC that changes memory, where that is done at once. Else nothing has changed.
 #[inline(always)]
-#[tactic(auto, using(crate::proofs::Updates::updating))]
+#[tactic(auto, using(crate::proofs::Updates::updating, crate::proofs::Changes::steps))]
 pub(crate) fn update_memory<P: Port>(
     update: Update,
     size: Size,
@@ -59,6 +61,7 @@ pub(crate) fn update_memory<P: Port>(
     requires { IsInstr (update_of update size (place_ea place)) }
     ensures done { IfSome result (λ flow. Goes P.bus (update_of update size (place_ea place)) 1 space plain.old
         (P.world port.old) flow plain.new (P.world port.new)) }
+    ensures differ { IfSome result (λ flow. Differ (with_step place Nothing) plain.old plain.new) }
     ensures undone { IfNone result (plain.new ≡ plain.old) }
     ensures same { IfNone result (P.world port.new ≡ P.world port.old) }
     ensures rest { P.rest port.new ≡ P.rest port.old }
@@ -91,6 +94,7 @@ pub(crate) fn update_near<P: Port>(
     requires { IsInstr (update_of update size (Disp base displacement)) }
     ensures done { IfSome result (λ flow. Goes P.bus (update_of update size (Disp base displacement)) 2 space plain.old
         (P.world port.old) flow plain.new (P.world port.new)) }
+    ensures differ { IfSome result (λ flow. Differ Nothing plain.old plain.new) }
     ensures undone { IfNone result (plain.new ≡ plain.old) }
     ensures same { IfNone result (P.world port.new ≡ P.world port.old) }
     ensures rest { P.rest port.new ≡ P.rest port.old }
