@@ -1,5 +1,5 @@
 -- An instruction that was carried out by its short form is the step's.
-use Rattle.std.proofs.Common.{◌≡◌, ◌∙◌, ℕ, ◌<◌, ◌+◌, ◌%◌, ◌^◌, length, refl, ap, sym, subst, Bool, Option, Some, None, IfSome, Ok, inl, inr}
+use Rattle.std.proofs.Common.{◌≡◌, ◌∙◌, ℕ, ◌<◌, ◌+◌, ◌%◌, ◌^◌, length, refl, ap, sym, subst, Bool, false, List, Option, Some, None, IfSome, Ok, inl, inr, arith}
 use Rattle.mb_port.specs.Routine.{Bus, Call, run}
 use Rattle.mb_port.specs.declared.types.Space.{Space}
 use Rattle.mb_instr.specs.declared.instruction.Instr.{Instr}
@@ -19,10 +19,13 @@ use Rattle.def_processor.specs.Step.{execute_of, finish_instruction_of}
 use Rattle.mb_table.specs.declared.short.Short.{Short}
 use Rattle.mb_table.specs.FirstWords.{alone}
 use Rattle.mb_table.specs.Short.{meaning, meaning_with, IsAlone, IsWith, IsShort}
+use Rattle.mb_short.specs.declared.changed.Changed.{Changed}
+use Rattle.mb_short.specs.declared.changed.Changed.TheVariants.{Nothing, Data, Address, Both, Any}
+use Rattle.mb_short.specs.Changed.{Differ}
 use Rattle.mb_short.specs.Taken.{Goes, GoesBy, IsDone}
 use Rattle.mb_step.specs.Fetching.{behind, found_executed}
 use Rattle.mb_step.proofs.Fetches.{is_whole, two_words}
-use Rattle.mb_step.proofs.Registers.{same_space, same_due, same_counter, registers_over, plain_again}
+use Rattle.mb_step.proofs.Registers.{same_space, same_due, same_counter, registers_over, registers_low, plain_again}
 
 -- what follows an instruction that went
 abbrev pub after : {S : Type 0} → Bus S → Cpu → Bool → Plain → S → Stepped × S
@@ -79,6 +82,52 @@ went_apart bus cpu value before now first short flow s t stepped k len less righ
     ∙ ap (λ (b : Bool). run bus (trace_if_of finish.Went b before.pc (with_registers now whole)) t) (sym (same_due before cpu flow))
     ∙ ap (λ (c : Cpu). run bus (trace_if_of finish.Went (is_due cpu.regs.sr flow) before.pc c) t) (registers_over before now cpu)
     ∙ h
+
+-- and where no trace is due
+pub untraced_went : {S : Type 0} (bus : Bus S) (cpu value : Cpu) (before now : Plain) (first : ℕ) (short : Short) (flow : Bool) (s t : S)
+    → with_registers before cpu ≡ value → length before.a ≡ 8 → before.ccr < 32 → IsShort first short
+    → IsDone bus short (space_of cpu) before s flow now t → is_due value.regs.sr flow ≡ false
+    → run bus (found_executed value (by_decoded (alone first) (behind value first))) s
+    ≡ ((finish.Went, with_registers (record now { ccr = now.ccr % 32 }) cpu), t)
+untraced_went bus cpu value before now first short flow s t k len less right done untraced =
+    let due : is_due cpu.regs.sr flow ≡ false =
+    same_due before cpu flow ∙ ap (λ (c : Cpu). is_due c.regs.sr flow) k ∙ untraced in
+    went_apart bus cpu value before now first short flow s t ((finish.Went, with_registers (record now { ccr = now.ccr % 32 }) cpu), t)
+    k len less right done
+    (ap (λ (b : Bool). run bus (trace_if_of finish.Went b before.pc (with_registers now cpu)) t) due
+    ∙ ap (λ (c : Cpu). (let r : Stepped × _ = ((finish.Went, c), t) in r)) (sym (registers_low now cpu)))
+
+differ_codes : (c : Changed) (p q : Plain) (ccr : ℕ) → Differ c p q → Differ c p (record q { ccr = ccr })
+differ_codes Nothing p q ccr h = h
+differ_codes (Data n) p q ccr h = h
+differ_codes (Address n) p q ccr h = h
+differ_codes (Both n m) p q ccr h = h
+differ_codes Any p q ccr h = tt
+
+differ_together : (c : Changed) (cpu value after : Cpu) (before now : Plain) → with_registers before cpu ≡ value
+    → with_registers (record now { ccr = now.ccr % 32 }) cpu ≡ after → length before.a ≡ 8 → length now.a ≡ 8 → before.ccr < 32
+    → Differ c before now → Differ c (plain_of value.regs) (plain_of after.regs)
+differ_together c cpu value after before now k j len eight less h =
+    let end = record now { ccr = now.ccr % 32 } in
+    let few : now.ccr % 32 < 32 = omega arith in
+    let first : before ≡ plain_of value.regs = sym (plain_again before cpu len less) ∙ ap (λ (x : Cpu). plain_of x.regs) k in
+    let second : end ≡ plain_of after.regs = sym (plain_again end cpu eight few) ∙ ap (λ (x : Cpu). plain_of x.regs) j in
+    subst (λ (p : Plain). Differ c p (plain_of after.regs)) first
+    (subst (λ (q : Plain). Differ c before q) second (differ_codes c before now (now.ccr % 32) h))
+
+-- what differs of the registers apart differs of those put together
+pub differ_apart : (c : Changed) (cpu value after : Cpu) (before now : Plain) → with_registers before cpu ≡ value
+    → with_registers (record now { ccr = now.ccr % 32 }) cpu ≡ after → length before.a ≡ 8 → before.ccr < 32
+    → Differ c before now → Differ c (plain_of value.regs) (plain_of after.regs)
+differ_apart Nothing cpu value after before now k j len less h =
+    differ_together Nothing cpu value after before now k j len (ap (λ (a : List ℕ). length a) h.1 ∙ len) less h
+differ_apart (Data n) cpu value after before now k j len less h =
+    differ_together (Data n) cpu value after before now k j len (ap (λ (a : List ℕ). length a) h.1 ∙ len) less h
+differ_apart (Address n) cpu value after before now k j len less h =
+    differ_together (Address n) cpu value after before now k j len (h.1.as_many ∙ len) less h
+differ_apart (Both n m) cpu value after before now k j len less h =
+    differ_together (Both n m) cpu value after before now k j len (h.1.as_many ∙ len) less h
+differ_apart Any cpu value after before now k j len less h = tt
 
 -- ---- what a right form is, is in the table of instructions
 

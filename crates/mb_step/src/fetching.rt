@@ -1,13 +1,16 @@
 //! The instruction that stands at PC is fetched and decoded.
 
-ghost use Rattle.std.specs.Prelude.{◌≡◌, ◌≢◌, ◌-◌, ◌+◌, ◌%◌, ◌^◌, [], ◌∷◌, IfOk, IfErr, IfSome, IfNone};
+ghost use Rattle.std.specs.Prelude.{◌≡◌, ◌≢◌, ◌-◌, ◌+◌, ◌%◌, ◌^◌, [], ◌∷◌, true, false, IfOk, IfErr, IfSome, IfNone};
 ghost use Rattle.mb_port.specs.Routine.{run};
 ghost use Rattle.mb_instr.specs.Codes.{IsInstr};
+ghost use Rattle.mb_instr.specs.Registers.{plain_of};
 ghost use Rattle.mb_model.specs.Status.{space_of};
 ghost use Rattle.mb_decode.specs.declared.front.Decoded.TheVariants.{More};
 ghost use Rattle.mb_decode.specs.Decodes.{decode_of};
 ghost use Rattle.def_instructions.specs.Attempt.{found_of, by_decoded};
+ghost use Rattle.def_processor.specs.Raise.{is_due};
 ghost use Rattle.def_processor.specs.Step.{execute_next_of};
+ghost use Rattle.mb_short.specs.Changed.{changed_of, Differ};
 ghost use Rattle.mb_table.specs.FirstWords.{alone};
 ghost use Rattle.mb_table.specs.Short.{IsShort};
 ghost use Rattle.mb_step.specs.Fetching.{sought_of, sought_by, word_of, behind, found_executed};
@@ -21,7 +24,7 @@ use mb_decode::{Decoded, Decoding, decode_into};
 use mb_instr::vectors::{ILLEGAL, LINE_A, LINE_F, ODD_COUNTER};
 use mb_instr::{Instr, MOST_WORDS};
 use mb_port::{Port, Space};
-use mb_short::perform_short;
+use mb_short::{Changed, changed_by, perform_short};
 use mb_table::{FirstWords, Short, Shorts};
 
 /// How many words an instruction can have behind its first.
@@ -334,6 +337,95 @@ fn execute_first<P: Port>(
         Decoded::LineF => return processor.refuse(LINE_F, port),
     };
     execute(instruction, length, processor, port)
+}
+
+/// Fetches the instruction that stands at PC and carries it out by its row, whatever its short form.
+#[inline(always)]
+pub(crate) fn execute_by_row<P: Port>(
+    first_words: &mut FirstWords,
+    shorts: &mut Shorts,
+    longer: &mut Longer,
+    processor: &mut Processor,
+    port: &mut P,
+) -> Finish
+    ensures means { run P.bus (execute_next_of processor.old) (P.world port.old)
+        ≡ ((result, processor.new), P.world port.new) }
+    ensures busy { result ≢ Finish.Idle }
+    ensures rest { P.rest port.new ≡ P.rest port.old }
+{
+    let (at, space) = (processor.pc(), processor.space());
+    if at % 2 == 1 {
+        return processor.refuse(ODD_COUNTER, port);
+    }
+    let first = match fetch_word(space, at, processor, port) {
+        Ok(word) => word,
+        Err(end) => return end,
+    };
+    if let Short::Unknown = shorts.of(first) {
+        learn(first, first_words, shorts);
+    }
+    execute_first(first, first_words, shorts, longer, processor, port)
+}
+
+/// Carries out the instruction of a first word's short form that stands at PC, where that is done at once and no trace
+/// is due whether or not it changes the flow of control. Else nothing has changed.
+#[inline(always)]
+fn execute_untraced<P: Port, const COPY: usize>(
+    first: u16,
+    short: &Short,
+    processor: &mut Processor,
+    port: &mut P,
+) -> bool
+    requires even { processor.old.regs.pc % 2 ≡ 0 }
+    requires short { IsShort first short.now }
+    requires untraced { (flow : _) → is_due processor.old.regs.sr flow ≡ false }
+    ensures done { result ≡ true
+        → run P.bus (found_executed processor.old (by_decoded (alone first) (behind processor.old first)))
+        (P.world port.old)
+        ≡ ((Finish.Went, processor.new), P.world port.new) }
+    ensures differ { result ≡ true
+        → Differ (changed_of short.now) (plain_of processor.old.regs) (plain_of processor.new.regs) }
+    ensures undone { result ≡ false → processor.new ≡ processor.old }
+    ensures same { result ≡ false → P.world port.new ≡ P.world port.old }
+    ensures rest { P.rest port.new ≡ P.rest port.old }
+{
+    match perform_short::<_, COPY>(short, processor.cpu.space(), &mut processor.plain, port) {
+        Some(_) => {
+            processor.plain.ccr %= 32;
+            true
+        }
+        None => false,
+    }
+}
+
+/// Fetches the instruction that stands at PC and carries it out by its short form, where all that is done at once and
+/// no trace is due: then the answer is what it may have changed. Else nothing has changed.
+#[inline(always)]
+pub(crate) fn execute_at_once<P: Port, const COPY: usize>(
+    shorts: &Shorts,
+    processor: &mut Processor,
+    port: &mut P,
+) -> Option<Changed>
+    requires untraced { (flow : _) → is_due processor.old.regs.sr flow ≡ false }
+    ensures done { IfSome result (λ changed. run P.bus (execute_next_of processor.old) (P.world port.old)
+        ≡ ((Finish.Went, processor.new), P.world port.new)) }
+    ensures differ { IfSome result (λ changed.
+        Differ changed (plain_of processor.old.regs) (plain_of processor.new.regs)) }
+    ensures undone { IfNone result (processor.new ≡ processor.old) }
+    ensures same { IfNone result (P.world port.new ≡ P.world port.old) }
+    ensures rest { P.rest port.new ≡ P.rest port.old }
+{
+    let (at, space) = (processor.pc(), processor.space());
+    if at % 2 == 1 {
+        return None;
+    }
+    let first = port.quick_fetch(space, at)?;
+    let short = shorts.of(first);
+    if execute_untraced::<_, COPY>(first, short, processor, port) {
+        Some(changed_by(short))
+    } else {
+        None
+    }
 }
 
 /// Fetches the instruction that stands at PC and carries it out: by its short form, where that is done at once. No word

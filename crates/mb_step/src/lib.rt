@@ -20,7 +20,8 @@ mod stepping;
 
 pub use decoder::Decoder;
 pub use def_processor::{Finish, StepEnd};
+pub use mb_short::Changed;
 pub use performing::perform;
 pub use processor::Processor;
 pub use raising::{access_error, unchecked};
-pub use stepping::{rank, step, step_in_place, step_to_finish};
+pub use stepping::{rank, step, step_at_once, step_by_row, step_in_place, step_to_finish};

@@ -1,8 +1,9 @@
 //! The processor as steps work on it.
 
-ghost use Rattle.std.specs.Prelude.{◌≡◌, length};
+ghost use Rattle.std.specs.Prelude.{◌≡◌, false, length};
 ghost use Rattle.mb_instr.specs.Registers.{plain_of};
 ghost use Rattle.mb_model.specs.Status.{space_of};
+ghost use Rattle.def_processor.specs.Raise.{is_due};
 ghost use Rattle.def_processor.specs.Step.{interrupt_mask};
 
 use mb_instr::Plain;
@@ -92,6 +93,14 @@ impl Processor {
         ensures { result ≡ self.now.stopped }
     {
         self.cpu.stopped
+    }
+
+    /// Whether a trace bit is set, T1 or T0.
+    #[inline(always)]
+    pub(crate) fn is_traced(&self) -> bool
+        ensures { result ≡ false → (flow : _) → is_due self.now.regs.sr flow ≡ false }
+    {
+        self.cpu.regs.sr >= 0x4000
     }
 
     /// The interrupt mask, bits 10 to 8 of the status register.

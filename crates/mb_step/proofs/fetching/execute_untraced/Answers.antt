@@ -1,0 +1,25 @@
+use Rattle.std.proofs.Common.{refl}
+use Rattle.mb_short.specs.Changed.{changed_of}
+use Rattle.mb_step.proofs.InShort.{differ_apart, even_apart, untraced_went, valid, valid_with}
+use Rattle.mb_step.proofs.fetching.execute_untraced.Goals as goal
+
+pub perform_short-requires-clause-even : goal.perform_short-requires-clause-even
+perform_short-requires-clause-even g c =
+    even_apart c.processor.inside.plain c.processor.inside.cpu c.args.processor.now c.processor.view_is c.requires.even
+
+pub perform_short-requires-clause-valid : goal.perform_short-requires-clause-valid
+perform_short-requires-clause-valid g c = valid c.args.first c.args.short.now c.requires.short
+
+pub perform_short-requires-clause-valid_with : goal.perform_short-requires-clause-valid_with
+perform_short-requires-clause-valid_with g c = valid_with c.args.first c.args.short.now c.requires.short
+
+pub returns-in-Some-clause-done : goal.returns-in-Some-clause-done
+returns-in-Some-clause-done g c = λ is.
+    untraced_went g.P.Port.bus c.processor.inside.cpu c.args.processor.now c.processor.inside.plain _ c.args.first c.args.short.now _ _ _
+    c.processor.view_is (assumption c.processor.ranges) c.processor.invariant c.requires.short
+    (rw c.space.ensures at c.in-Some.ensures.done) (c.requires.untraced _)
+
+pub returns-in-Some-clause-differ : goal.returns-in-Some-clause-differ
+returns-in-Some-clause-differ g c = λ is.
+    differ_apart (changed_of c.args.short.now) c.processor.inside.cpu c.args.processor.now _ c.processor.inside.plain _ c.processor.view_is refl
+    (assumption c.processor.ranges) c.processor.invariant c.in-Some.ensures.differ
