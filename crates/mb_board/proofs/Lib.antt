@@ -5,3 +5,4 @@ pub mod Idle
 pub mod Spellings
 pub mod UserRuns
 pub mod AtOnce
+pub mod Followed

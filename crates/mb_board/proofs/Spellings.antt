@@ -32,7 +32,7 @@ two-at_once t pc ccr = omega arith
 remainder_of : (x y : ℕ) → x % 2 ^ 64 ≡ (0 * y + x) % 2 ^ 64
 remainder_of x y = ap (λ (z : ℕ). z % 2 ^ 64) (let e : x ≡ 0 * y + x = omega (arith, zero-mul y) in e)
 
-has_eighteen : (p : Plain) → length p.d ≡ 8 → length p.a ≡ 8 → HasNumbers p
+pub has_eighteen : (p : Plain) → length p.d ≡ 8 → length p.a ≡ 8 → HasNumbers p
 has_eighteen p d a =
     length-append (p.d ++ p.a) (p.pc ∷ p.ccr ∷ [])
     ∙ ap (λ (n : ℕ). n + 2) (length-append p.d p.a ∙ ap (λ (n : ℕ). n + length p.a) d ∙ ap (λ (n : ℕ). 8 + n) a)

@@ -1,8 +1,16 @@
 -- A run in user mode by its first step.
-use Rattle.std.proofs.Common.{◌≡◌, ◌∙◌, ℕ, suc, ◌+◌, refl, ap, sym, subst, true, false}
+use Rattle.std.proofs.Common.{◌≡◌, ◌∙◌, ℕ, zero, suc, ◌+◌, ◌<◌, [], arith, refl, ap, sym, subst, Bool, true, false}
+use Rattle.std.specs.Prelude.{if◌then◌else◌}
 use Rattle.mb_instr.specs.declared.registers.Plain.{Plain}
 use Rattle.mb_instr.specs.Registers.{is_supervisor, plain_of}
-use Rattle.def_machine.specs.Machine.{Machine, takes_steps}
+use Rattle.mb_model.specs.Keeping.{rule_a}
+use Rattle.mb_model.specs.declared.outcome.RunState.{RunState}
+use Rattle.mb_devices.specs.Devices.{DeviceState, ticked}
+use Rattle.def_processor.specs.Raise.{Stepped}
+use Rattle.def_processor.specs.declared.Finish.{Finish}
+use Rattle.def_processor.specs.declared.Finish.TheVariants as finish
+use Rattle.def_machine.specs.World.{World}
+use Rattle.def_machine.specs.Machine.{Machine, processed, state_after, takes_steps, with_devices, with_finish}
 use Rattle.def_runs.specs.declared.RunEnd.{RunEnd}
 use Rattle.def_runs.specs.declared.RunEnd.TheVariants.{Counted, Exit, Gone}
 use Rattle.def_runs.specs.Native.{NativeState, Ran, user_step, user_run, ran_by, about_to_run, goes_on, EndsBy}
@@ -74,3 +82,44 @@ pub cause-of : (n : ℕ) (from ran : Ran) → ran ≡ user_run n from → from.e
     → is_supervisor from.machine.cpu.regs.sr ≡ false → EndsBy n from ran ran.end
 cause-of n from ran is counted going user =
     subst (λ (x : Ran). EndsBy n from x x.end) (sym is) (runs-end_by_cause n from counted going user)
+
+-- ---- what stands beside a run
+
+-- the registers before it do not count where it takes a step
+pub any_before : (k : ℕ) (m : Machine) (native : NativeState) (b c : Plain) → 0 < k
+    → user_run k (about_to_run m native b) ≡ user_run k (about_to_run m native c)
+unfolding user_run
+any_before zero m native b c some = absurd (omega arith)
+any_before (suc n) m native b c some = refl
+
+pub fits_any : (k : ℕ) (m : Machine) (native : NativeState) (b c : Plain) → FitsAlong k (about_to_run m native b)
+    → FitsAlong k (about_to_run m native c)
+fits_any zero m native b c h = h
+fits_any (suc n) m native b c h = h
+
+ends_so : (b : Bool) (r : Ran) → (if b then user_run 0 r else r) ≡ r
+unfolding user_run
+ends_so true r = refl
+ends_so false r = refl
+
+-- a run of one step
+pub one_step : (r : Ran) → user_run 1 r ≡ ran_by (user_step r.machine) r
+unfolding user_run
+one_step r = let after = ran_by (user_step r.machine) r in ends_so (goes_on after.end) after
+
+pub fits_once : (r : Ran) → IsFit (plain_of r.machine.cpu.regs) → FitsAlong 1 r
+fits_once r fit = (fit, λ on. tt)
+
+-- ---- a step at which the timer stands still
+
+abbrev pub ended_with : Machine → Stepped × World → Finish × Machine
+ended_with m x = let (ended, after) = with_finish m x in (ended, record after { steps = m.steps })
+
+pub quick_step : (m after : Machine) → ticked m.world.devices ≡ m.world.devices
+    → processed rule_a [] m ≡ ((finish.Went, after.cpu), after.world) → after.steps ≡ m.steps
+    → after.state ≡ state_after finish.Went after.cpu after.world.devices → (finish.Went, after) ≡ user_step m
+quick_step m after still means steps state =
+    ap (λ (n : ℕ). (let r : Finish × Machine = (finish.Went, record after { steps = n }) in r)) steps
+    ∙ ap (λ (s : RunState). (let r : Finish × Machine = (finish.Went, record after { steps = m.steps; state = s }) in r)) state
+    ∙ sym (ap (ended_with m) means)
+    ∙ sym (ap (λ (d : DeviceState). ended_with m (processed rule_a [] (with_devices m d))) still)

@@ -11,7 +11,7 @@ ghost use Rattle.def_runs.specs.Free.{IsFreeRun};
 ghost use Rattle.mb_board.specs.Arrivals.{IsNext};
 ghost use Rattle.mb_board.specs.Idle.{IsHeld};
 
-use crate::board::{BARE, Core};
+use crate::board::Core;
 use crate::bus::BoardBus;
 use crate::receiving::place_behind;
 use crate::states::state_of;
@@ -89,7 +89,7 @@ impl Core {
         ensures ram { length self.new.world.ram ≡ length self.old.world.ram }
     {
         self.steps += 1;
-        self.step_uncounted::<BARE>()
+        self.step_uncounted::<true>()
     }
 
     /// Whether STOP holds the processor, and no interrupt is asked for that it takes.

@@ -1,6 +1,8 @@
 //! The board.
 
-ghost use Rattle.std.specs.Prelude.{◌≡◌, ◌+◌, ◌^◌, ◌<◌, ◌≤◌, [], length, replicate, slice_range, true, IfOk};
+ghost use Rattle.std.specs.Prelude.{◌≡◌, ◌+◌, ◌^◌, ◌<◌, ◌≤◌, [], length, replicate, slice_range, true, IfNone, IfOk, IfSome};
+ghost use Rattle.mb_instr.specs.Registers.{plain_of};
+ghost use Rattle.mb_short.specs.Changed.{Differ};
 ghost use Rattle.mb_model.specs.Keeping.{rule_a};
 ghost use Rattle.mb_model.specs.Seen.{seen_of};
 ghost use Rattle.mb_walk.specs.Memory.{overwritten};
@@ -25,16 +27,16 @@ use mb_instr::Plain;
 use mb_model::{Cpu, Outcome, RunState};
 use mb_outside::Memory;
 use mb_script::Script;
-use mb_step::{Decoder, Processor, step_in_place};
+use mb_step::{Changed, Decoder, Processor, step_at_once, step_by_row, step_in_place};
 use mb_walk::Ram;
 use std::alloc::Global;
 use std::marker::Model;
 
 /// The copy of a step in runs of the bare board.
-pub(crate) const BARE: usize = 0;
+const BARE: usize = 0;
 
 /// That in runs for a monitor.
-pub(crate) const NATIVE: usize = 1;
+const NATIVE: usize = 1;
 
 /// That for steps at which something arrives, or an interrupt is asked for.
 const ASKED: usize = 2;
@@ -131,9 +133,10 @@ impl Core {
         step_in_place::<_, ASKED>(&mut self.decoder, &mut self.cpu, &mut self.bus, level)
     }
 
-    /// The processor's part of a step that has begun. Where no interrupt is asked for, its mask is not looked at.
+    /// The processor's part of a step that has begun, by a short form or by none. Where no interrupt is asked for, its
+    /// mask is not looked at.
     #[inline(always)]
-    fn carry_out<const COPY: usize>(&mut self) -> Finish
+    fn carry_out<const SHORT: bool>(&mut self) -> Finish
         ensures means { processed rule_a [] self.old ≡ ((result, self.new.cpu), self.new.world) }
         ensures steps { self.new.steps ≡ self.old.steps }
         ensures state { self.new.state ≡ self.old.state }
@@ -143,20 +146,70 @@ impl Core {
         if level > 0 {
             return self.carry_out_at(level);
         }
-        step_in_place::<_, COPY>(&mut self.decoder, &mut self.cpu, &mut self.bus, 0)
+        if SHORT {
+            step_in_place::<_, BARE>(&mut self.decoder, &mut self.cpu, &mut self.bus, 0)
+        } else {
+            step_by_row(&mut self.decoder, &mut self.cpu, &mut self.bus)
+        }
     }
 
-    /// One step at which nothing arrives, and which is not counted.
+    /// One step at which nothing arrives, and which is not counted, by a short form or by none.
     #[inline(always)]
-    pub(crate) fn step_uncounted<const COPY: usize>(&mut self) -> Finish
+    pub(crate) fn step_uncounted<const SHORT: bool>(&mut self) -> Finish
         ensures means { (result, self.new) ≡ user_step self.old }
         ensures steps { self.new.steps ≡ self.old.steps }
         ensures ram { length self.new.world.ram ≡ length self.old.world.ram }
     {
         self.bus.tick();
-        let finish = self.carry_out::<COPY>();
+        let finish = self.carry_out::<SHORT>();
         self.state = state_of(finish, self.cpu.is_stopped(), self.bus.devices());
         finish
+    }
+
+    /// The processor's part of a step that has begun, where no interrupt is asked for and it is carried out at once:
+    /// then the answer is what it may have changed. Else nothing has changed.
+    #[inline(always)]
+    fn carry_out_at_once(&mut self) -> Option<Changed>
+        ensures means { IfSome result (λ changed.
+            processed rule_a [] self.old ≡ ((Finish.Went, self.new.cpu), self.new.world)) }
+        ensures differ { IfSome result (λ changed.
+            Differ changed (plain_of self.old.cpu.regs) (plain_of self.new.cpu.regs)) }
+        ensures undone { IfNone result (self.new ≡ self.old) }
+        ensures steps { self.new.steps ≡ self.old.steps }
+        ensures state { self.new.state ≡ self.old.state }
+        ensures ram { length self.new.world.ram ≡ length self.old.world.ram }
+    {
+        if self.bus.level() > 0 {
+            return None;
+        }
+        step_at_once::<_, NATIVE>(&self.decoder, &mut self.cpu, &mut self.bus)
+    }
+
+    /// One step at which nothing arrives, and which is not counted, where the timer stands still and it is carried out
+    /// at once: then the answer is what it may have changed. Else nothing has changed.
+    #[inline(always)]
+    pub(crate) fn step_at_once(&mut self) -> Option<Changed>
+        ensures means { IfSome result (λ changed. (Finish.Went, self.new) ≡ user_step self.old) }
+        ensures differ { IfSome result (λ changed.
+            Differ changed (plain_of self.old.cpu.regs) (plain_of self.new.cpu.regs)) }
+        ensures undone { IfNone result (self.new ≡ self.old) }
+        ensures ram { length self.new.world.ram ≡ length self.old.world.ram }
+    {
+        if !self.bus.stands_still() {
+            return None;
+        }
+        let changed = self.carry_out_at_once()?;
+        self.state = state_of(Finish::Went, self.cpu.is_stopped(), self.bus.devices());
+        Some(changed)
+    }
+
+    /// One step at which nothing arrives, and which is not counted, by no short form.
+    #[inline(never)]
+    pub(crate) fn step_apart(&mut self) -> Finish
+        ensures means { (result, self.new) ≡ user_step self.old }
+        ensures ram { length self.new.world.ram ≡ length self.old.world.ram }
+    {
+        self.step_uncounted::<false>()
     }
 
     /// The processor becomes another.

@@ -1,6 +1,6 @@
 //! What the board's bus holds, and what the board does with it beside its calls.
 
-ghost use Rattle.std.specs.Prelude.{◌≡◌, ◌+◌, ◌^◌, ◌<◌, ◌≤◌, length, replicate, if◌then◌else◌, IfOk};
+ghost use Rattle.std.specs.Prelude.{◌≡◌, ◌+◌, ◌^◌, ◌<◌, ◌≤◌, length, replicate, if◌then◌else◌, true, IfOk};
 ghost use Rattle.mb_model.specs.Keeping.{rule_a};
 ghost use Rattle.mb_walk.specs.Memory.{overwritten};
 ghost use Rattle.mb_devices.specs.Devices.{idle, level_of, restarted, ticked};
@@ -88,6 +88,15 @@ impl BoardBus {
         ensures { self.new ≡ record self.old { devices = ticked self.old.devices } }
     {
         self.devices.tick();
+    }
+
+    /// Whether the timer stands still.
+    #[inline(always)]
+    #[tactic(auto, unfolding(mb_devices::specs::Devices::ticked))]
+    pub fn stands_still(&self) -> bool
+        ensures { result ≡ true → ticked self.now.devices ≡ self.now.devices }
+    {
+        self.devices.period() == 0
     }
 
     /// The interrupt level that the devices ask for.

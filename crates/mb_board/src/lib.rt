@@ -11,6 +11,7 @@ mod board;
 mod board_port;
 mod bus;
 mod bus_port;
+mod following;
 mod lending;
 mod native;
 mod places;

@@ -1,19 +1,23 @@
 //! Runs in user mode, for a monitor.
 
-ghost use Rattle.std.specs.Prelude.{◌≡◌, ◌+◌, ◌^◌, ◌<◌, length, false};
+ghost use Rattle.std.specs.Prelude.{◌≡◌, ◌≢◌, ◌+◌, ◌^◌, ◌<◌, length, false};
 ghost use Rattle.mb_instr.specs.Registers.{is_supervisor, plain_of};
+ghost use Rattle.mb_short.specs.Changed.{Differ};
+ghost use Rattle.def_runs.specs.declared.RunEnd.TheVariants.{Counted};
 ghost use Rattle.def_runs.specs.Native.{EndsBy, about_to_run, ended_by, ran_by, user_run, user_step, with_step};
 ghost use Rattle.mb_board.specs.Fits.{FitsAlong};
 ghost use Rattle.mb_board.specs.Spelling.{Spell};
 ghost use Rattle.mb_board.specs.State.{ran_to, run_from};
 
-use crate::board::{Board, Core, NATIVE};
+use crate::board::{Board, Core};
+use crate::following::{follow, spelled_on};
 use crate::native::Native;
 use crate::spelling::spelling;
 use def_processor::Finish;
 use def_runs::RunEnd;
 use mb_instr::Plain;
 use mb_model::RunState;
+use mb_step::Changed;
 
 impl Core {
     /// How a run in user mode ends with a step that ended so, or that it goes on.
@@ -30,18 +34,26 @@ impl Core {
         }
     }
 
-    /// Counts the step that led here from these registers and ended so. They spelled `spelled`, which becomes what the
-    /// registers spell now.
+    /// Counts the step that led here from these registers, changed no more of them than this and ended so. They spelled
+    /// `spelled`, which becomes what the registers spell now.
     #[inline(always)]
-    fn count(&self, finish: Finish, before: &Plain, spelled: &mut u64, native: &mut Native)
+    fn count(
+        &self,
+        finish: Finish,
+        changed: Changed,
+        before: &Plain,
+        spelled: &mut u64,
+        native: &mut Native,
+    )
         requires retired { native.old.retired + 1 < 2 ^ 64 }
         requires exceptions { native.old.exceptions + 1 < 2 ^ 64 }
+        requires differ { Differ changed before.now (plain_of self.now.cpu.regs) }
         requires spelled { Spell before.now spelled.old }
         ensures counted { native.new ≡ with_step finish before.now self.now native.old }
         ensures spelled { Spell (plain_of self.now.cpu.regs) spelled.new }
     {
         let beginning = *spelled;
-        *spelled = spelling(self.cpu.plain());
+        *spelled = spelled_on(changed, beginning, before, self.cpu.plain());
         match finish {
             Finish::Went | Finish::Idle => native.retire(beginning, *spelled),
             Finish::Entered(_) if self.takes_steps() => native.except(),
@@ -49,21 +61,57 @@ impl Core {
         }
     }
 
-    /// One more step of a run in user mode, which is counted, and how the run ends with it. `before` becomes the
-    /// registers at its beginning, which spelled `spelled`; that becomes what those at its end spell.
+    /// One step in user mode, and what it may have changed.
+    #[inline(always)]
+    fn step_in_user_mode(&mut self) -> (Finish, Changed)
+        ensures means { let (finish, changed) = result in (finish, self.new) ≡ user_step self.old }
+        ensures differ { let (finish, changed) = result in
+            Differ changed (plain_of self.old.cpu.regs) (plain_of self.new.cpu.regs) }
+        ensures ram { length self.new.world.ram ≡ length self.old.world.ram }
+    {
+        match self.step_at_once() {
+            Some(changed) => (Finish::Went, changed),
+            None => (self.step_apart(), Changed::Any),
+        }
+    }
+
+    /// One more step of a run in user mode, which is counted, and how the run ends with it. `before` has the registers
+    /// at its beginning, which spell `spelled`; where the run goes on, both become those at its end.
     #[inline(always)]
     fn run_on(&mut self, native: &mut Native, before: &mut Plain, spelled: &mut u64) -> RunEnd
         requires retired { native.old.retired + 1 < 2 ^ 64 }
         requires exceptions { native.old.exceptions + 1 < 2 ^ 64 }
-        requires spelled { Spell (plain_of self.old.cpu.regs) spelled.old }
-        ensures means { record { end = result; machine = self.new; native = native.new; before = before.new }
+        requires before { before.old ≡ plain_of self.old.cpu.regs }
+        requires spelled { Spell before.old spelled.old }
+        ensures means { record { end = result; machine = self.new; native = native.new; before = before.old }
             ≡ ran_by (user_step self.old) (about_to_run self.old native.old before.old) }
+        ensures on { result ≡ Counted → before.new ≡ plain_of self.new.cpu.regs }
+        ensures off { result ≢ Counted → before.new ≡ before.old }
         ensures spelled { Spell (plain_of self.new.cpu.regs) spelled.new }
         ensures ram { length self.new.world.ram ≡ length self.old.world.ram }
     {
-        *before = *self.cpu.plain();
-        let finish = self.step_uncounted::<NATIVE>();
-        self.count(finish, before, spelled, native);
+        let (finish, changed) = self.step_in_user_mode();
+        self.count(finish, changed, before, spelled, native);
+        let end = self.ended_by(finish);
+        if let RunEnd::Counted = end {
+            follow(changed, before, self.cpu.plain());
+        }
+        end
+    }
+
+    /// The last step of a run in user mode, which is counted, and how the run ends with it. `before` has the registers
+    /// at its beginning, which spell `spelled`.
+    fn run_last(&mut self, native: &mut Native, before: &Plain, mut spelled: u64) -> RunEnd
+        requires retired { native.old.retired + 1 < 2 ^ 64 }
+        requires exceptions { native.old.exceptions + 1 < 2 ^ 64 }
+        requires before { before.now ≡ plain_of self.old.cpu.regs }
+        requires spelled { Spell before.now spelled }
+        ensures means { record { end = result; machine = self.new; native = native.new; before = before.now }
+            ≡ ran_by (user_step self.old) (about_to_run self.old native.old before.now) }
+        ensures ram { length self.new.world.ram ≡ length self.old.world.ram }
+    {
+        let finish = self.step_apart();
+        self.count(finish, Changed::Any, before, &mut spelled, native);
         self.ended_by(finish)
     }
 
@@ -77,14 +125,18 @@ impl Core {
         ensures fit { FitsAlong limit (about_to_run self.old native.old before.old) }
         ensures ram { length self.new.world.ram ≡ length self.old.world.ram }
     {
-        let mut spelled = spelling(self.cpu.plain());
-        for _ in 0..limit {
+        if limit == 0 {
+            return RunEnd::Counted;
+        }
+        *before = *self.cpu.plain();
+        let mut spelled = spelling(before);
+        for _ in 1..limit {
             match self.run_on(native, before, &mut spelled) {
                 RunEnd::Counted => {}
                 end => return end,
             }
         }
-        RunEnd::Counted
+        self.run_last(native, before, spelled)
     }
 }
 
