@@ -3,6 +3,7 @@ pub mod Comes
 pub mod Whys
 pub mod Sources
 pub mod Debugged
+pub mod Snapshots
 pub mod Shelves
 pub mod Reads
 pub mod Laws

@@ -8,13 +8,15 @@ use Rattle.mb_script.specs.declared.fault.LineFault.{LineFault}
 use Rattle.mb_script.specs.declared.fault.LineFault.TheVariants as line_fault
 use Rattle.mb_asm.specs.declared.fault.AsmFault.{AsmFault}
 use Rattle.mb_asm.specs.declared.fault.AsmFault.TheVariants as asm_fault
+use Rattle.vm_snapshot.specs.declared.plan.SnapFault.{SnapFault}
+use Rattle.vm_snapshot.specs.declared.plan.SnapFault.TheVariants as snap_fault
 use Rattle.mb_words.specs.Words.{Text}
 use Rattle.mb_files.specs.Reading.{Reading}
 use Rattle.mb_files.specs.Comes.{Comes, MayHave, Names}
 use Rattle.mb_files.specs.Shelves.{ShelfSeen, Fails, IsMissing, Stayed}
 use Rattle.mb_files.specs.declared.fault.FileWhy.{FileWhy}
 use Rattle.mb_files.specs.declared.fault.FileWhy.TheVariants.{TooLong, Line, Outside, NoEnd}
-use Rattle.mb_files.specs.declared.fault.Reason.TheVariants.{Record, Words, Source}
+use Rattle.mb_files.specs.declared.fault.Reason.TheVariants.{Record, Words, Source, Snapshot}
 use Rattle.mb_files.specs.declared.fault.FileFault.{FileFault}
 use Rattle.mb_files.specs.declared.fault.FileFault.TheVariants.{Refused, Unread, Memory}
 use Rattle.mb_files.specs.declared.files.Loaded.{Loaded}
@@ -75,6 +77,11 @@ unheld_lines (line_fault.Line number why) = unheld.Why (Line number (Words why))
 abbrev pub unheld_source : AsmFault → Unheld
 unheld_source asm_fault.Memory = unheld.Memory
 unheld_source (asm_fault.Line number kind) = unheld.Why (Line number (Source kind))
+
+-- what a fault of reading a snapshot is
+abbrev pub unheld_snapshot : SnapFault → Unheld
+unheld_snapshot snap_fault.Memory = unheld.Memory
+unheld_snapshot (snap_fault.Line number) = unheld.Why (Line number Snapshot)
 
 -- why a file of this name is not read
 abbrev pub fault_by : String Global → Unheld → FileFault

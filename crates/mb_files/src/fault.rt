@@ -13,6 +13,8 @@ pub enum Reason {
     Words(LineWhy),
     /// It is no line of a source, or what it says cannot be assembled.
     Source(AsmKind),
+    /// With it the text begins no snapshot.
+    Snapshot,
 }
 
 /// Why a file is refused, whatever it is read as.

@@ -1,13 +1,16 @@
 //! Files read whole, each by what it is.
 
-ghost use Rattle.std.specs.Prelude.{◌≡◌, ◌≤◌, All, IfOk, [], length};
+ghost use Rattle.std.specs.Prelude.{◌≡◌, ◌^◌, ◌<◌, ◌≤◌, All, IfErr, IfOk, Ok, [], length};
 ghost use Rattle.mb_srec.specs.Image.{IsAddressed, LiesBelow, contents_of};
 ghost use Rattle.mb_script.specs.Answers.{plan_said};
 ghost use Rattle.mb_script.specs.Plan.{IsInRange};
+ghost use Rattle.mb_saved.specs.Saved.{IsLawful};
+ghost use Rattle.vm_snapshot.specs.Plans.{plan_seen};
 ghost use Rattle.mb_words.specs.Values.{file_said};
 ghost use Rattle.mb_files.specs.Reading.{file, if_named, images, scripts, sessions};
 ghost use Rattle.mb_files.specs.Sources.{sources};
 ghost use Rattle.mb_files.specs.Debugged.{commands, sessions_with};
+ghost use Rattle.mb_files.specs.Snapshots.{plan_in, snapshots, FaultsAs, IsSaid};
 ghost use Rattle.mb_files.specs.Shelves.{shelf_seen};
 ghost use Rattle.mb_files.specs.Reads.{IsRead, LoadsFile, fault_by};
 
@@ -19,9 +22,13 @@ use mb_script::{Script, SessionPlan, read_script, read_session};
 use mb_srec::{Image, read_image};
 use std::alloc::Global;
 use vm_debug::{Commands, read_commands};
+use vm_snapshot::{SnapFault, SnapPlan, read_snapshot};
 
 /// The most bytes of an image, of a script, of a session file, of a source and of a debugger's commands.
 const MOST_BYTES: usize = 67_108_864;
+
+/// The most bytes of a snapshot.
+pub const MOST_SNAPSHOT_BYTES: usize = 1_073_741_824;
 
 /// A file that was read whole.
 #[derive(Drop)]
@@ -178,6 +185,35 @@ pub fn commands_file<F: Shelf>(
     let file = load_file(alloc, shelf, name, MOST_BYTES)?;
     match read_commands(alloc, &file.bytes) {
         Ok(commands) => Ok(commands),
+        Err(fault) => Err(file.fault(Unheld::from(fault))),
+    }
+}
+
+/// Reads the text of a snapshot.
+fn plan_in(alloc: Global, text: &[u8]) -> Result<SnapPlan, SnapFault>
+    requires { length text.now < 2 ^ 31 }
+    ensures plan { IfOk result (λ plan. plan_in text.now ≡ Ok (plan_seen plan)) }
+    ensures lawful { IfOk result (λ plan. All (λ g. IsLawful g.saved) plan.guests.items) }
+    ensures said { IfOk result (λ plan. IsSaid (plan_seen plan)) }
+    ensures fault { IfErr result (FaultsAs (plan_in text.now)) }
+{
+    read_snapshot(alloc, text)
+}
+
+/// Reads a snapshot.
+pub fn snapshot_file<F: Shelf>(
+    alloc: Global,
+    shelf: &mut F,
+    name: &str,
+) -> Result<SnapPlan, FileFault>
+    ensures read { IsRead (file snapshots name.now) plan_seen
+        (shelf_seen F.Shelf shelf.old) (shelf_seen F.Shelf shelf.new) result }
+    ensures lawful { IfOk result (λ plan. All (λ g. IsLawful g.saved) plan.guests.items) }
+    ensures said { IfOk result (λ plan. IsSaid (plan_seen plan)) }
+{
+    let file = load_file(alloc, shelf, name, MOST_SNAPSHOT_BYTES)?;
+    match plan_in(alloc, &file.bytes) {
+        Ok(plan) => Ok(plan),
         Err(fault) => Err(file.fault(Unheld::from(fault))),
     }
 }

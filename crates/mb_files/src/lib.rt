@@ -15,7 +15,7 @@ mod unheld;
 
 pub use fault::{FileFault, FileWhy, Reason};
 pub use files::{
-    commands_file, image_file, image_if_named, script_if_named, session_file, session_file_with,
-    source_file,
+    MOST_SNAPSHOT_BYTES, commands_file, image_file, image_if_named, script_if_named, session_file,
+    session_file_with, snapshot_file, source_file,
 };
 pub use laws::readings_follow;

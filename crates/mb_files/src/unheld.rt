@@ -1,12 +1,13 @@
 //! Why bytes are not what a file is read as.
 
 ghost use Rattle.std.specs.Prelude.{◌≡◌};
-ghost use Rattle.mb_files.specs.Reads.{unheld_image, unheld_lines, unheld_source};
+ghost use Rattle.mb_files.specs.Reads.{unheld_image, unheld_lines, unheld_snapshot, unheld_source};
 
 use crate::fault::{FileWhy, Reason};
 use mb_asm::AsmFault;
 use mb_script::LineFault;
 use mb_srec::ImageFault;
+use vm_snapshot::SnapFault;
 
 /// Why bytes are not what the file is read as.
 #[derive(Clone, Copy)]
@@ -55,6 +56,20 @@ impl From<AsmFault> for Unheld {
             AsmFault::Line { number, kind } => Unheld::Why(FileWhy::Line {
                 number,
                 why: Reason::Source(kind),
+            }),
+        }
+    }
+}
+
+impl From<SnapFault> for Unheld {
+    ghost from_gives = { λ given fault. fault ≡ unheld_snapshot given };
+
+    fn from(fault: SnapFault) -> Unheld {
+        match fault {
+            SnapFault::Memory => Unheld::Memory,
+            SnapFault::Line { number } => Unheld::Why(FileWhy::Line {
+                number,
+                why: Reason::Snapshot,
             }),
         }
     }

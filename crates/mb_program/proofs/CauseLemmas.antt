@@ -10,11 +10,14 @@ use Rattle.vm_guest.specs.Session.{GuestAtStart, SessionAtStart}
 use Rattle.vm_slices.specs.Fit.{Fits}
 use Rattle.vm_slices.specs.Members.{numbered}
 use Rattle.vm_debug.specs.declared.command.Command.{Command}
-use Rattle.mb_words.specs.Words.{Asked, Debugged, Text, bare, assembly, disassembly, hosting, comparison, generation, debugging, asked_by}
+use Rattle.mb_words.specs.Words.{Asked, Debugged, Resumption, SavePoint, Text, bare, assembly, disassembly, hosting, comparison, generation, debugging, resuming, saving, asked_by}
 use Rattle.mb_files.specs.Reading.{Told, Reading, gives, ◌>>=◌, end_of, file, images}
 use Rattle.mb_files.specs.Sources.{sources}
+use Rattle.mb_files.specs.Snapshots.{snapshots}
+use Rattle.vm_snapshot.specs.Plans.{Plan}
 use Rattle.mb_program.specs.Files.{Ordered, machine_files, session_files}
 use Rattle.mb_program.specs.Debugs.{debug_shown, debugged_files, debugged_shown}
+use Rattle.mb_program.specs.Saves.{IsSavedText, all_cut_to, gone_on_shown, resume_shown, save_shown, session_of}
 use Rattle.mb_program.specs.Headline.{Headline, IsFree, alone}
 use Rattle.mb_program.specs.Answers.{Answer, Shown, shows, oversizes, answer_to, if_it_fits}
 use Rattle.mb_program.specs.Answers.{bare_shown, asm_shown, dis_shown, host_shown, compare_shown, gen_shown}
@@ -27,6 +30,7 @@ use Rattle.mb_program.specs.declared.end.End.{End}
 use Rattle.mb_files.proofs.ReadingLemmas.{end_then}
 use Rattle.mb_program.proofs.ShowLemmas.{it_fits}
 use Rattle.mb_program.proofs.DebugLemmas.{chosen}
+use Rattle.mb_program.proofs.GoOnLemmas.{goes_on}
 use Rattle.mb_program.proofs.EndLemmas.{cut_so, differs_so, done_so, gives_so, memory_line, oversize_always, oversize_so, refused_always, refused_so, stands, status_known, unread_never, unread_so, words_always, words_line, words_so}
 use Rattle.mb_program.proofs.TidyLemmas.{tidy_so}
 
@@ -70,6 +74,26 @@ debugged_so asked a diag status given d session orders guest is gets there fits 
     (it_fits session (debug_shown d.guest session.guests orders) fits
     ∙ ap (λ (shown : Shown). shows shown) (sym (chosen d.guest session.guests guest orders there))))
 
+saved_so : (asked : Option Asked) (a : Around) (diag : Diag) (status : ℕ) → GivenSo asked a diag status → (p : SavePoint) (s : Ordered)
+    → asked ≡ Some (saving p) → Gets a (session_files p.session) s → Fits s.session → Gives a diag (save_shown p.steps s.session) status
+saved_so asked a diag status given p s is gets fits = given (saving p) (save_shown p.steps s.session) is
+    (known_shown a (session_files p.session) (λ (r : Ordered). if_it_fits r.session (save_shown p.steps r.session)) s (save_shown p.steps s.session) gets
+    (it_fits s.session (save_shown p.steps s.session) fits))
+
+resumed_so : (asked : Option Asked) (a : Around) (diag : Diag) (status : ℕ) → GivenSo asked a diag status → (r : Resumption) (plan : Plan)
+    → asked ≡ Some (resuming r) → Gets a (file snapshots r.snapshot) plan → Fits (session_of r.steps plan)
+    → Gives a diag (resume_shown r.steps plan) status
+resumed_so asked a diag status given r plan is gets fits = given (resuming r) (resume_shown r.steps plan) is
+    (known_shown a (file snapshots r.snapshot) (λ (p : Plan). if_it_fits (session_of r.steps p) (resume_shown r.steps p)) plan
+    (resume_shown r.steps plan) gets (it_fits (session_of r.steps plan) (resume_shown r.steps plan) fits))
+
+gone_on_so : (asked : Option Asked) (a : Around) (diag : Diag) (status : ℕ) → GivenSo asked a diag status → (r : Resumption) (text : Text) (steps : ℕ)
+    (s : SessionAtStart) → asked ≡ Some (resuming r) → a.shelf.told r.snapshot ≡ Some text → IsSavedText steps s text
+    → Gives a diag (gone_on_shown r.steps s.slice (all_cut_to steps s.guests)) status
+gone_on_so asked a diag status given r text steps s is told saved =
+    let on = goes_on a.shelf.told r.snapshot text r.steps steps s told saved in
+    subst (λ (shown : Shown). Gives a diag shown status) on.shows (resumed_so asked a diag status given r on.plan is on.gets on.fits)
+
 pub causes_so : (asked : Option Asked) (a : Around) (diag : Diag) (end : End) → Ends asked a end → IsPut diag (line_of end)
     → (HostsNothing asked → a.native_after ≡ a.native) → Causes asked a diag (status_of end)
 causes_so asked a diag end h line unhosted =
@@ -87,6 +111,9 @@ causes_so asked a diag end h line unhosted =
       compared = compared_so asked a diag (status_of end) given;
       tidy = λ name s is gets fits. tidy_so a diag s (status_of end) (compared_so asked a diag (status_of end) given name s is gets fits);
       debugged = debugged_so asked a diag (status_of end) given;
+      saved = saved_so asked a diag (status_of end) given;
+      resumed = resumed_so asked a diag (status_of end) given;
+      goes_on = gone_on_so asked a diag (status_of end) given;
       generated = λ workload is. given (generation workload) (gen_shown workload) is refl;
       complete = given;
       known = status_known end;

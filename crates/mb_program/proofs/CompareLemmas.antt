@@ -49,7 +49,7 @@ member_for_each guests host shown =
 -- ---- one machine after the other
 
 -- the first of what is left behind a place stands there
-at_left : {X : Type 0} (xs : List X) (k : ℕ) (x : X) (rest : List X) → drop k xs ≡ x ∷ rest → slice_get xs k ≡ Some x
+pub at_left : {X : Type 0} (xs : List X) (k : ℕ) (x : X) (rest : List X) → drop k xs ≡ x ∷ rest → slice_get xs k ≡ Some x
 at_left [] zero x rest is = absurd (cc)
 at_left [] (suc k) x rest is = absurd (cc)
 at_left (y ∷ ys) zero x rest is = let same : y ≡ x = cc in ap (λ z. Some z) same
@@ -61,7 +61,7 @@ left_within xs k x rest is = slice_get_within xs k x (at_left xs k x rest is)
 pub left_behind : {X : Type 0} (xs : List X) (k : ℕ) (x : X) (rest : List X) → drop k xs ≡ x ∷ rest → drop (k + 1) xs ≡ rest
 left_behind xs k x rest is = sym (drop-drop 1 k xs) ∙ ap (λ ys. drop 1 ys) is
 
-mapped_at : {X Y : Type 0} (f : X → Y) (xs : List X) (k : ℕ) (x : X) → slice_get xs k ≡ Some x → slice_get (map f xs) k ≡ Some (f x)
+pub mapped_at : {X Y : Type 0} (f : X → Y) (xs : List X) (k : ℕ) (x : X) → slice_get xs k ≡ Some x → slice_get (map f xs) k ≡ Some (f x)
 mapped_at f [] k x is = absurd (cc)
 mapped_at f (y ∷ ys) zero x is = let same : y ≡ x = cc in ap (λ z. Some (f z)) same
 mapped_at f (y ∷ ys) (suc k) x is = mapped_at f ys k x is

@@ -31,10 +31,10 @@ use Rattle.vm_debug.specs.Debugs.{Course, Debugging, course_from, debugged, prin
 use Rattle.vm_debug.proofs.Debugging.{courses_show}
 use Rattle.mb_words.specs.Words.{Text}
 use Rattle.mb_program.specs.Headline.{machine_text}
-use Rattle.mb_program.specs.Direct.{AreCarriedOut, steps_alone, tally_by}
+use Rattle.mb_program.specs.Direct.{AreCarriedOut, bounded, steps_alone, tally_by}
 use Rattle.mb_program.specs.Answers.{Shown, plain, shows, if_it_fits}
 use Rattle.mb_program.specs.Around.{SinkSeen, Gains, GainsPart}
-use Rattle.mb_program.specs.Debugs.{at_outset, bounded, course_alone, debug_shown, debugged_shown, steps_debugged}
+use Rattle.mb_program.specs.Debugs.{at_outset, course_alone, debug_shown, debugged_shown, steps_debugged}
 use Rattle.mb_program.specs.Ends.{IsGiven}
 use Rattle.mb_program.specs.Lone.{end_of, scene_of, IsAtStart}
 use Rattle.mb_program.specs.declared.debugged.LoneGuest.{LoneGuest}

@@ -5,6 +5,10 @@ pub mod MachineLemmas
 pub mod RunLemmas
 pub mod ShowLemmas
 pub mod DebugLemmas
+pub mod KeptLemmas
+pub mod SaveLemmas
+pub mod ResumeLemmas
+pub mod GoOnLemmas
 pub mod CompareLemmas
 pub mod SummaryLemmas
 pub mod EndLemmas

@@ -29,7 +29,7 @@ use Rattle.mb_program.specs.Direct.{CarriedOut, hosted_by, tallies_by, tally_by}
 use Rattle.mb_program.specs.Runs.{IsUnopened}
 
 -- a guest has all its steps left at its start
-all_left : (g : GuestAtStart) → left (member_at_start g) ≡ g.steps
+pub all_left : (g : GuestAtStart) → left (member_at_start g) ≡ g.steps
 unfolding reset_with
 all_left g =
     let none : g.steps - 0 ≡ g.steps = omega arith in
@@ -93,29 +93,29 @@ pub tallied_so : (guests : List GuestAtStart) (before after : List Member) → b
     → tallies_of after ≡ map tally_at_end before → tallies_of after ≡ tallies_by guests
 tallied_so guests before after begun ended = ended ∙ ap (λ ms. map tally_at_end ms) begun ∙ all_tallied guests
 
-none_retired : (guests : List GuestAtStart) → retired_by (map member_at_start guests) ≡ 0
+pub none_retired : (guests : List GuestAtStart) → retired_by (map member_at_start guests) ≡ 0
 none_retired [] = refl
 none_retired (g ∷ guests) = omega (arith, none_retired guests)
 
-none_left : (guests : List GuestAtStart) → exits_by (map member_at_start guests) ≡ 0
+pub none_left : (guests : List GuestAtStart) → exits_by (map member_at_start guests) ≡ 0
 none_left [] = refl
 none_left (g ∷ guests) = omega (arith, none_left guests)
 
-retired_sum : (members : List Member) → retired_by members ≡ sum_by (λ (t : Tally). t.retired) (tallies_of members)
+pub retired_sum : (members : List Member) → retired_by members ≡ sum_by (λ (t : Tally). t.retired) (tallies_of members)
 retired_sum [] = refl
 retired_sum (m ∷ members) =
     ap (λ (n : ℕ). m.tally.retired + n) (retired_sum members) ∙ sym (sum_by-cons (λ (t : Tally). t.retired) m.tally (tallies_of members))
 
-exits_sum : (members : List Member) → exits_by members ≡ sum_by exits (tallies_of members)
+pub exits_sum : (members : List Member) → exits_by members ≡ sum_by exits (tallies_of members)
 exits_sum [] = refl
 exits_sum (m ∷ members) = ap (λ (n : ℕ). exits m.tally + n) (exits_sum members) ∙ sym (sum_by-cons exits m.tally (tallies_of members))
 
-none_taken : (guests : List GuestAtStart) → steps_by (map member_at_start guests) ≡ 0
+pub none_taken : (guests : List GuestAtStart) → steps_by (map member_at_start guests) ≡ 0
 unfolding reset_with
 none_taken [] = refl
 none_taken (g ∷ guests) = omega (arith, none_taken guests)
 
-steps_sum : (members : List Member) → steps_by members ≡ sum_by (λ (m : Machine). m.steps) (machines_of members)
+pub steps_sum : (members : List Member) → steps_by members ≡ sum_by (λ (m : Machine). m.steps) (machines_of members)
 steps_sum [] = refl
 steps_sum (m ∷ members) =
     ap (λ (n : ℕ). m.guest.machine.steps + n) (steps_sum members)

@@ -1,5 +1,5 @@
 -- How a session's answer is given.
-use Rattle.std.proofs.Common.{◌≡◌, List, map, refl, sym, ap, subst}
+use Rattle.std.proofs.Common.{◌≡◌, ℕ, List, map, refl, sym, ap, subst}
 use Rattle.std.proofs.lemmas.Bool.{le-ltb, lt-ltb}
 use Rattle.mb_model.specs.Keeping.{rule_k}
 use Rattle.def_machine.specs.Machine.{Machine}
@@ -11,7 +11,12 @@ use Rattle.vm_slices.specs.Members.{machines_of}
 use Rattle.vm_slices.specs.Places.{HostState, members_in}
 use Rattle.vm_slices.specs.declared.open_fault.OpenFault.{OpenFault}
 use Rattle.vm_slices.specs.declared.open_fault.OpenFault.TheVariants as open_fault
+use Rattle.std.specs.Prelude.{◌/◌}
+use Rattle.vm_snapshot.specs.Plans.{Plan}
+use Rattle.vm_snapshot.specs.Shown.{ShownGuest, snapshot_text}
 use Rattle.mb_program.specs.Files.{Ordered}
+use Rattle.mb_program.specs.Saved.{HaveGoneOn, HaveStopped, shown_by}
+use Rattle.mb_program.specs.Saves.{resume_shown, save_shown, session_of}
 use Rattle.mb_program.specs.Headline.{alone, machine_text, texts_from}
 use Rattle.mb_program.specs.Direct.{CarriedOut, counts_line}
 use Rattle.mb_program.specs.Answers.{Answer, Shown, shows, oversizes, host_shown, if_it_fits}
@@ -19,7 +24,7 @@ use Rattle.mb_program.specs.Around.{SinkSeen, Gains, GainsPart}
 use Rattle.mb_program.specs.Ends.{IsGiven, IsIdle}
 use Rattle.mb_program.specs.Runs.{HaveRun, IsUnopened, unopened}
 use Rattle.mb_program.specs.declared.end.End.{End}
-use Rattle.mb_program.specs.declared.end.End.TheVariants.{Counts, Memory, Output}
+use Rattle.mb_program.specs.declared.end.End.TheVariants.{Counts, Done, Memory, Output}
 
 -- a session that fits gives what is shown
 pub it_fits : (s : SessionAtStart) (shown : Shown) → Fits s → if_it_fits s shown ≡ shows shown
@@ -58,6 +63,45 @@ pub hosted_cut : (s : Ordered) (host : HostState) (out out_after : SinkSeen) (na
 hosted_cut s host out out_after native native_after runs part =
     fitting s.session (host_shown s) out out_after native native_after Output runs.fits
     (texts_so s host (λ (ms : List Machine). GainsPart out out_after (texts_from machine_text 1 ms)) runs part)
+
+-- a snapshot is written, or a part of it
+pub saved_done : (steps : ℕ) (s : SessionAtStart) (host : HostState) (out out_after : SinkSeen) (native native_after : NativeState)
+    → HaveStopped steps s native native_after host → Gains out out_after (snapshot_text (s.board / 1024) s.slice (shown_by (members_in host)))
+    → IsGiven (if_it_fits s (save_shown steps s)) out out_after native native_after Done
+saved_done steps s host out out_after native native_after stopped gained =
+    fitting s (save_shown steps s) out out_after native native_after Done stopped.fits (record {
+      gained = subst (λ (guests : List ShownGuest). Gains out out_after (snapshot_text (s.board / 1024) s.slice guests)) stopped.shown gained;
+      status_is = refl;
+      lines_are = refl;
+      counted = stopped.counted;
+    })
+
+pub saved_cut : (steps : ℕ) (s : SessionAtStart) (host : HostState) (out out_after : SinkSeen) (native native_after : NativeState)
+    → HaveStopped steps s native native_after host
+    → GainsPart out out_after (snapshot_text (s.board / 1024) s.slice (shown_by (members_in host)))
+    → IsGiven (if_it_fits s (save_shown steps s)) out out_after native native_after Output
+saved_cut steps s host out out_after native native_after stopped part =
+    fitting s (save_shown steps s) out out_after native native_after Output stopped.fits
+    (subst (λ (guests : List ShownGuest). GainsPart out out_after (snapshot_text (s.board / 1024) s.slice guests)) stopped.shown part)
+
+-- the guests of a snapshot have gone on
+pub resumed_done : (more : ℕ) (plan : Plan) (host : HostState) (out out_after : SinkSeen) (native native_after : NativeState)
+    → HaveGoneOn more plan native native_after host → Gains out out_after (texts_from machine_text 1 (machines_of (members_in host)))
+    → IsGiven (if_it_fits (session_of more plan) (resume_shown more plan)) out out_after native native_after (Counts host)
+resumed_done more plan host out out_after native native_after gone gained =
+    fitting (session_of more plan) (resume_shown more plan) out out_after native native_after (Counts host) gone.fits (record {
+      gained = subst (λ (ms : List Machine). Gains out out_after (texts_from machine_text 1 ms)) gone.machines gained;
+      status_is = refl;
+      lines_are = ap (λ (tallies : List Tally). texts_from counts_line 1 tallies) (sym gone.tallies);
+      counted = gone.counted;
+    })
+
+pub resumed_cut : (more : ℕ) (plan : Plan) (host : HostState) (out out_after : SinkSeen) (native native_after : NativeState)
+    → HaveGoneOn more plan native native_after host → GainsPart out out_after (texts_from machine_text 1 (machines_of (members_in host)))
+    → IsGiven (if_it_fits (session_of more plan) (resume_shown more plan)) out out_after native native_after Output
+resumed_cut more plan host out out_after native native_after gone part =
+    fitting (session_of more plan) (resume_shown more plan) out out_after native native_after Output gone.fits
+    (subst (λ (ms : List Machine). GainsPart out out_after (texts_from machine_text 1 ms)) gone.machines part)
 
 -- a session without a host: it does not fit, or memory ran out
 pub not_opened : (s : SessionAtStart) (shown : Shown) (out : SinkSeen) (native native_after : NativeState) (fault : OpenFault) → IsUnopened s fault

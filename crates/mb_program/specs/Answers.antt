@@ -17,14 +17,17 @@ use Rattle.vm_guest.specs.Session.{GuestAtStart, SessionAtStart}
 use Rattle.vm_slices.specs.Fit.{need_of}
 use Rattle.mb_gen.specs.Sessions.{generated}
 use Rattle.mb_words.specs.Words.{Text, Run, Excerpt, Workload}
-use Rattle.mb_words.specs.Words.{Asked, bare, assembly, disassembly, hosting, comparison, generation, debugging}
+use Rattle.mb_words.specs.Words.{Asked, bare, assembly, disassembly, hosting, comparison, generation}
+use Rattle.mb_words.specs.Words.{debugging, resuming, saving}
 use Rattle.mb_files.specs.Reading.{Reading, gives, ◌>>=◌, file, images}
 use Rattle.mb_files.specs.Sources.{sources}
+use Rattle.mb_files.specs.Snapshots.{snapshots}
 use Rattle.mb_program.specs.Files.{Ordered, machine_files, session_files}
 use Rattle.mb_program.specs.Headline.{alone, machine_text, texts_from}
 use Rattle.mb_program.specs.Direct.{counts_line, steps_of_all, tallies_by}
 pub use Rattle.mb_program.specs.Shown.{Shown, plain}
 use Rattle.mb_program.specs.Debugs.{debug_shown, debugged_files}
+use Rattle.mb_program.specs.Saves.{resume_shown, save_shown, session_of}
 
 -- ---- answers
 
@@ -155,4 +158,10 @@ answer_to (comparison name) = do
 answer_to (debugging d) = do
   (session, orders) ← debugged_files d
   gives (if_it_fits session (debug_shown d.guest session.guests orders))
+answer_to (saving p) = do
+  s ← session_files p.session
+  gives (if_it_fits s.session (save_shown p.steps s.session))
+answer_to (resuming r) = do
+  plan ← file snapshots r.snapshot
+  gives (if_it_fits (session_of r.steps plan) (resume_shown r.steps plan))
 answer_to (generation workload) = gives (shows (gen_shown workload))

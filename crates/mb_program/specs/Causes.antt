@@ -8,18 +8,22 @@ use Rattle.vm_slices.specs.Fit.{Fits}
 use Rattle.vm_slices.specs.Members.{numbered}
 use Rattle.vm_guest.specs.Session.{GuestAtStart, SessionAtStart}
 use Rattle.vm_debug.specs.declared.command.Command.{Command}
-use Rattle.mb_words.specs.Words.{Text, Asked, Run, Excerpt, Workload, Debugged}
-use Rattle.mb_words.specs.Words.{bare, assembly, disassembly, hosting, comparison, generation, debugging}
+use Rattle.mb_words.specs.Words.{Text, Asked, Run, Excerpt, Workload, Debugged, SavePoint, Resumption}
+use Rattle.mb_words.specs.Words.{bare, assembly, disassembly, hosting, comparison, generation}
+use Rattle.mb_words.specs.Words.{debugging, resuming, saving}
 use Rattle.def_machine.specs.Machine.{Entries, Opening}
 use Rattle.mb_files.specs.Reading.{Told, Reading, end_of, file, images}
 use Rattle.mb_files.specs.Comes.{Comes, Names}
 use Rattle.mb_files.specs.Sources.{sources}
+use Rattle.mb_files.specs.Snapshots.{snapshots}
 use Rattle.mb_files.specs.Shelves.{IsMissing}
 use Rattle.mb_files.specs.declared.fault.FileWhy.{FileWhy}
 use Rattle.mb_program.specs.Files.{Ordered, machine_files, session_files}
 use Rattle.mb_program.specs.Answers.{Answer, Shown, shows, oversizes, answer_to}
 use Rattle.mb_program.specs.Answers.{bare_shown, asm_shown, dis_shown, host_shown, compare_shown, gen_shown}
 use Rattle.mb_program.specs.Debugs.{debugged_files, debugged_shown}
+use Rattle.mb_program.specs.Saves.{IsSavedText, all_cut_to, gone_on_shown, resume_shown, save_shown, session_of}
+use Rattle.vm_snapshot.specs.Plans.{Plan}
 use Rattle.mb_program.specs.Around.{Around, Diag, Gains, GainsPart, IsPut}
 use Rattle.mb_program.specs.Direct.{IsCounted}
 use Rattle.mb_program.specs.Lines.{named, oversize_line, why_text}
@@ -148,6 +152,17 @@ pub record Causes (asked : Option Asked) (a : Around) (diag : Diag) (status : �
       → asked ≡ Some (debugging d) → Gets a (debugged_files d) (session, orders)
       → numbered d.guest session.guests ≡ Some guest → Fits session
       → Gives a diag (debugged_shown d.guest guest orders) status
+  -- The snapshot of a session that fits: of each guest its machine after these steps alone.
+  pub saved : (p : SavePoint) (s : Ordered) → asked ≡ Some (saving p)
+      → Gets a (session_files p.session) s → Fits s.session → Gives a diag (save_shown p.steps s.session) status
+  -- The guests of a snapshot that fits, each from there for so many steps more.
+  pub resumed : (r : Resumption) (plan : Plan) → asked ≡ Some (resuming r)
+      → Gets a (file snapshots r.snapshot) plan → Fits (session_of r.steps plan)
+      → Gives a diag (resume_shown r.steps plan) status
+  -- Where it is what `save` wrote of a session, they come to where each comes alone that is not stopped.
+  pub goes_on : (r : Resumption) (text : Text) (steps : ℕ) (s : SessionAtStart) → asked ≡ Some (resuming r)
+      → a.shelf.told r.snapshot ≡ Some text → IsSavedText steps s text
+      → Gives a diag (gone_on_shown r.steps s.slice (all_cut_to steps s.guests)) status
   -- The guests of a session that a number makes, in short.
   pub generated : (workload : Workload) → asked ≡ Some (generation workload) → Gives a diag (gen_shown workload) status
   -- Whatever the command, an answer that is known to be shown is given.

@@ -11,7 +11,7 @@ use Rattle.mb_files.specs.Reading.{Reading, gives, ◌>>=◌, file}
 use Rattle.mb_files.specs.Debugged.{commands, sessions_with}
 use Rattle.mb_program.specs.Files.{Ordered, plan_files}
 use Rattle.mb_program.specs.Headline.{alone, machine_text}
-use Rattle.mb_program.specs.Direct.{steps_alone}
+use Rattle.mb_program.specs.Direct.{bounded, steps_alone}
 use Rattle.mb_program.specs.Shown.{Shown, plain}
 
 -- A session file, which has a guest of this number, then the files of its guests, and then the commands.
@@ -21,10 +21,6 @@ debugged_files d = do
   s ← plan_files plan
   orders ← file commands d.commands
   gives (s.session, orders)
-
--- a guest that takes this many steps at most
-abbrev pub bounded : GuestAtStart → ℕ → GuestAtStart
-bounded guest steps = record guest { steps = steps }
 
 -- a guest alone, by how many steps it has taken
 abbrev pub course_alone : GuestAtStart → Course

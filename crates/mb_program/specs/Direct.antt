@@ -14,6 +14,10 @@ use Rattle.mb_program.specs.Files.{Ordered}
 
 -- ---- the steps of a guest
 
+-- a guest that takes this many steps at most
+abbrev pub bounded : GuestAtStart → ℕ → GuestAtStart
+bounded guest steps = record guest { steps = steps }
+
 -- How many of each class a guest takes alone, from its start and with nothing in its shadow.
 abbrev pub tally_by : GuestAtStart → Tally
 tally_by guest = tally_of guest.opening guest.script guest.ram guest.steps

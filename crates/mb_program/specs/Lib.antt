@@ -3,6 +3,7 @@ pub mod Headline
 pub mod Direct
 pub mod Shown
 pub mod Debugs
+pub mod Saves
 pub mod Answers
 pub mod Around
 pub mod Lines
@@ -14,3 +15,4 @@ pub mod Compares
 pub mod Said
 pub mod Disks
 pub mod Lone
+pub mod Saved

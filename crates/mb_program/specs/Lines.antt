@@ -55,6 +55,7 @@ abbrev pub reason_of : Reason → Text
 reason_of (reason.Record why) = record_reason why
 reason_of (reason.Words why) = line_reason why
 reason_of (reason.Source kind) = source_reason kind
+reason_of reason.Snapshot = codes "snapshot"
 
 -- why a file is refused, behind its name
 abbrev pub why_text : FileWhy → Text

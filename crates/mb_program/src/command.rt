@@ -4,6 +4,7 @@ ghost use Rattle.std.specs.Prelude.{◌≡◌, map, option_map, string_bytes};
 ghost use Rattle.def_runs.specs.Native.{NativeState};
 ghost use Rattle.mb_words.specs.Values.{file_said};
 ghost use Rattle.mb_words.specs.Words.{asked_by, assembly, bare, comparison, debugging, disassembly, hosting};
+ghost use Rattle.mb_words.specs.Words.{resuming, resumption_said, saving, saving_said};
 ghost use Rattle.mb_words.specs.Words.{debugged_said, disk_said, excerpt_said, run_said, session_said, source_said};
 ghost use Rattle.mb_program.specs.Answers.{answer_to};
 ghost use Rattle.mb_program.specs.Around.{around_of};
@@ -23,11 +24,14 @@ use crate::machine::show_machine;
 use crate::machine_files::read_parts;
 use crate::named::{NamedDisk, NamedFiles};
 use crate::records::show_records;
+use crate::resumed::show_resumed;
+use crate::saved::show_saved;
 use mb_board::Native;
-use mb_files::{image_file, source_file};
+use mb_files::{image_file, snapshot_file, source_file};
 use mb_outside::{Shelf, Sink};
 use mb_words::{
-    Asm, Bare, BareDisk, Command, DebugGuest, Dis, SessionFile, WordsFault, read_words,
+    Asm, Bare, BareDisk, Command, DebugGuest, Dis, ResumeSnapshot, SaveSession, SessionFile,
+    WordsFault, read_words,
 };
 use std::alloc::Global;
 
@@ -148,6 +152,44 @@ fn run_debug<F: Shelf, O: Sink>(
     }
 }
 
+/// `save`: reads the session and the files of its guests, runs each of them under the monitor for so many steps at
+/// most, and writes their snapshot.
+fn run_save<F: Shelf, O: Sink>(
+    alloc: Global,
+    save: &SaveSession,
+    shelf: &mut F,
+    out: &mut O,
+    native: &mut Native,
+) -> End
+    requires room { HasRoomToRun native.old }
+    ensures { CommandEnds (answer_to (saving (saving_said save.now)))
+        (around_of F.Shelf O.Sink shelf.old shelf.new out.old out.new native.old native.new) result }
+{
+    match read_session(alloc, shelf, save.session) {
+        Ok(ordered) => show_saved(alloc, ordered.session, save.steps, out, native),
+        Err(fault) => End::from(fault),
+    }
+}
+
+/// `resume`: reads the snapshot, makes its guests again, runs each of them under the monitor for so many steps more at
+/// most, and writes their outcomes.
+fn run_resume<F: Shelf, O: Sink>(
+    alloc: Global,
+    resume: &ResumeSnapshot,
+    shelf: &mut F,
+    out: &mut O,
+    native: &mut Native,
+) -> End
+    requires room { HasRoomToRun native.old }
+    ensures { CommandEnds (answer_to (resuming (resumption_said resume.now)))
+        (around_of F.Shelf O.Sink shelf.old shelf.new out.old out.new native.old native.new) result }
+{
+    match snapshot_file(alloc, shelf, resume.snapshot) {
+        Ok(plan) => show_resumed(alloc, plan, resume.steps, out, native),
+        Err(fault) => End::from(fault),
+    }
+}
+
 /// Reads the words, and runs their command.
 pub fn run_words<F: Shelf, O: Sink>(
     alloc: Global,
@@ -170,6 +212,8 @@ pub fn run_words<F: Shelf, O: Sink>(
         Ok(Command::Compare(session)) => run_compare(alloc, &session, shelf, out, native),
         Ok(Command::Gen(workload)) => show_generated(alloc, &workload, out, native),
         Ok(Command::Debug(debug)) => run_debug(alloc, &debug, shelf, out, native),
+        Ok(Command::Save(save)) => run_save(alloc, &save, shelf, out, native),
+        Ok(Command::Resume(resume)) => run_resume(alloc, &resume, shelf, out, native),
         Err(WordsFault::Refused) => End::Words,
         Err(WordsFault::Memory) => End::Memory,
     }

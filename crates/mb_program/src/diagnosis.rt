@@ -35,6 +35,7 @@ fn reason(why: Reason) -> &'static [u8]
         Reason::Record(why) => record_reason(why),
         Reason::Words(why) => line_reason(why),
         Reason::Source(kind) => source_reason(kind),
+        Reason::Snapshot => b"snapshot",
     }
 }
 

@@ -54,7 +54,7 @@ pub(crate) fn run_session(
 }
 
 /// Writes the outcomes of all guests in their order.
-fn write_outcomes<O: Sink>(host: &Host, out: &mut O) -> Result<(), SinkFault>
+pub(crate) fn write_outcomes<O: Sink>(host: &Host, out: &mut O) -> Result<(), SinkFault>
     ensures { Prints (O.taken out.old) (O.taken out.new) (O.faults out.old) (O.faults out.new)
         (texts_from machine_text 1 (machines_of (members_in host.now))) result }
 {

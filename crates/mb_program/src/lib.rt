@@ -21,6 +21,8 @@ mod named;
 mod opening;
 mod ordered;
 mod records;
+mod resumed;
+mod saved;
 mod top;
 mod unfailing;
 

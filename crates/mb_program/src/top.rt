@@ -19,14 +19,15 @@ use std::alloc::Global;
 ///
 /// - 0: the text of the command was written to out: the outcome of a run with its disk, the records of an image, a
 ///   listing, the outcomes of all guests of a session with their disks, that each of them shows the same on the board
-///   and under the monitor, the summary of guests that were made, or what a debugger's commands print, with the
-///   outcome of its guest.
+///   and under the monitor, the summary of guests that were made, what a debugger's commands print, with the outcome of
+///   its guest, a snapshot of all guests of a session, or the outcomes of a snapshot's guests.
 /// - 1: the same was written, and some guest differs.
 /// - 2: the words ask for nothing.
-/// - 3: a file has more bytes than one of its kind may have (67,108,864), or is no image for this RAM, no contents for
-///   this disk, no script, no source, no session, or no commands of a debugger, or a session has no guest of the number
-///   that the words name; the line on diag says which, and why.
-/// - 4: the guests of a session do not fit on its board; the line on diag says how many bytes they need, and have.
+/// - 3: a file has more bytes than one of its kind may have (67,108,864, and a snapshot 1,073,741,824), or is no image
+///   for this RAM, no contents for this disk, no script, no source, no session, no snapshot, or no commands of a
+///   debugger, or a session has no guest of the number that the words name; the line on diag says which, and why.
+/// - 4: the guests of a session, or of a snapshot, do not fit on its board; the line on diag says how many bytes they
+///   need, and have.
 /// - 5: the shelf failed.
 /// - 6: out failed, and has a first part of the text.
 /// - 7: memory ran out.

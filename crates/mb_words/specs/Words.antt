@@ -14,6 +14,8 @@ use Rattle.mb_words.specs.declared.debug_guest.DebugGuest.{DebugGuest}
 use Rattle.mb_words.specs.declared.dis.Dis.{Dis}
 use Rattle.mb_words.specs.declared.generate.Generate.{Generate}
 use Rattle.mb_words.specs.declared.session.SessionFile.{SessionFile}
+use Rattle.mb_words.specs.declared.snapshot.ResumeSnapshot.{ResumeSnapshot}
+use Rattle.mb_words.specs.declared.snapshot.SaveSession.{SaveSession}
 use Rattle.mb_words.specs.declared.command.Command.{Command}
 use Rattle.mb_words.specs.declared.command.Command.TheVariants as command
 
@@ -46,9 +48,20 @@ pub record Debugged : Type 0 where
   pub commands : Text
   pub guest : ℕ
 
+-- a session that is saved: the name of its file, and how many steps each guest takes at most
+pub record SavePoint : Type 0 where
+  pub session : Text
+  pub steps : ℕ
+
+-- a snapshot that is resumed: the name of its file, and how many steps more each guest takes at most
+pub record Resumption : Type 0 where
+  pub snapshot : Text
+  pub steps : ℕ
+
 -- what words can ask for: a run, the assembly of a source, the listing of an excerpt, the runs of all guests of a
--- session, what their runs by both rules have in common, the runs of guests that are made, or one guest of a session
--- under the debugger; a source and a session by the name of its file
+-- session, what their runs by both rules have in common, the runs of guests that are made, one guest of a session under
+-- the debugger, the snapshot of a session, or the runs of a snapshot's guests; a source and a session by the name of
+-- its file
 pub data Asked : Type 0 where
   bare : Run → Asked
   assembly : Text → Asked
@@ -57,6 +70,8 @@ pub data Asked : Type 0 where
   comparison : Text → Asked
   generation : Workload → Asked
   debugging : Debugged → Asked
+  saving : SavePoint → Asked
+  resuming : Resumption → Asked
 
 abbrev pub disk_said : BareDisk → Disk
 disk_said d = record { blocks = d.blocks; contents = file_said d.contents }
@@ -85,6 +100,12 @@ workload_said g = record { seed = g.seed; guests = g.guests }
 abbrev pub debugged_said : DebugGuest → Debugged
 debugged_said d = record { session = d.session.now; commands = d.commands.now; guest = d.guest }
 
+abbrev pub saving_said : SaveSession → SavePoint
+saving_said s = record { session = s.session.now; steps = s.steps }
+
+abbrev pub resumption_said : ResumeSnapshot → Resumption
+resumption_said r = record { snapshot = r.snapshot.now; steps = r.steps }
+
 abbrev pub command_said : Command → Asked
 command_said (command.Bare b) = bare (run_said b)
 command_said (command.Asm a) = assembly (source_said a)
@@ -93,6 +114,12 @@ command_said (command.Host s) = hosting (session_said s)
 command_said (command.Compare s) = comparison (session_said s)
 command_said (command.Gen g) = generation (workload_said g)
 command_said (command.Debug d) = debugging (debugged_said d)
+command_said (command.Save s) = saving (saving_said s)
+command_said (command.Resume r) = resuming (resumption_said r)
+
+-- steps, up to 2^32 - 1
+abbrev pub steps_said : List Use → Option ℕ
+steps_said uses = said_by (ranged 0 4294967295) (codes "steps") uses
 
 -- `bare IMAGE --ram KIB --steps N [--script FILE] [--disk BLOCKS [--contents FILE]]`
 abbrev pub bare_form : Form
@@ -130,7 +157,7 @@ abbrev pub bare_run : List Use → Option Run
 bare_run uses = run_with
     (said_by name_of (codes "IMAGE") uses)
     (said_by ram_of (codes "ram") uses)
-    (said_by (ranged 0 4294967295) (codes "steps") uses)
+    (steps_said uses)
     (said_if_given name_of (codes "script") uses)
     (bare_disk uses)
 
@@ -221,6 +248,40 @@ debugged_guest uses = debugged_with
     (said_by name_of (codes "COMMANDS") uses)
     (said_by guests_of (codes "guest") uses)
 
+-- `save SESSION --steps M`
+abbrev pub save_form : Form
+save_form = record {
+  name = codes "save";
+  positionals = codes "SESSION" ∷ [];
+  options = record { name = codes "steps"; required = true } ∷ [];
+}
+
+-- a session that is saved, where its values say something
+abbrev pub saved_with : Option Text → Option ℕ → Option SavePoint
+saved_with (Some session) (Some steps) = Some (record { session = session; steps = steps })
+saved_with _ _ = None
+
+-- the session that the values of `save` ask for
+abbrev pub saved_session : List Use → Option SavePoint
+saved_session uses = saved_with (said_by name_of (codes "SESSION") uses) (steps_said uses)
+
+-- `resume FILE --steps N`
+abbrev pub resume_form : Form
+resume_form = record {
+  name = codes "resume";
+  positionals = codes "FILE" ∷ [];
+  options = record { name = codes "steps"; required = true } ∷ [];
+}
+
+-- a snapshot that is resumed, where its values say something
+abbrev pub resumed_with : Option Text → Option ℕ → Option Resumption
+resumed_with (Some snapshot) (Some steps) = Some (record { snapshot = snapshot; steps = steps })
+resumed_with _ _ = None
+
+-- the snapshot that the values of `resume` ask for
+abbrev pub resumed_snapshot : List Use → Option Resumption
+resumed_snapshot uses = resumed_with (said_by name_of (codes "FILE") uses) (steps_said uses)
+
 -- What the words ask for: `PROGRAM COMMAND`, and then the command's own words in its form. Other words ask
 -- for nothing.
 unfoldable pub asked_by : List Text → Option Asked
@@ -234,5 +295,8 @@ asked_by (program ∷ name ∷ words) =
     else if bytes_eq name (codes "gen") then option_map generation (option_and_then gen_workload (read gen_form words))
     else if bytes_eq name (codes "debug")
     then option_map debugging (option_and_then debugged_guest (read debug_form words))
+    else if bytes_eq name (codes "save") then option_map saving (option_and_then saved_session (read save_form words))
+    else if bytes_eq name (codes "resume")
+    then option_map resuming (option_and_then resumed_snapshot (read resume_form words))
     else None
 asked_by _ = None

@@ -6,6 +6,7 @@ use crate::debug_guest::DebugGuest;
 use crate::dis::Dis;
 use crate::generate::Generate;
 use crate::session::SessionFile;
+use crate::snapshot::{ResumeSnapshot, SaveSession};
 
 /// A command with its values.
 #[derive(Clone, Copy, Debug, Drop)]
@@ -17,4 +18,6 @@ pub enum Command<'a> {
     Compare(SessionFile<'a>),
     Gen(Generate),
     Debug(DebugGuest<'a>),
+    Save(SaveSession<'a>),
+    Resume(ResumeSnapshot<'a>),
 }

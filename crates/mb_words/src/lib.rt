@@ -20,6 +20,8 @@ mod laws;
 mod reading;
 mod session;
 mod session_words;
+mod snapshot;
+mod snapshot_words;
 mod values;
 
 pub use asm::Asm;
@@ -32,3 +34,4 @@ pub use laws::plain_words_ask;
 pub use mb_forms::WordsFault;
 pub use reading::read_words;
 pub use session::SessionFile;
+pub use snapshot::{ResumeSnapshot, SaveSession};

@@ -11,6 +11,7 @@ use crate::debug_words::read_debug;
 use crate::dis_words::read_dis;
 use crate::gen_words::read_gen;
 use crate::session_words::{read_compare, read_host};
+use crate::snapshot_words::{read_resume, read_save};
 use mb_forms::WordsFault;
 use std::alloc::Global;
 
@@ -31,6 +32,8 @@ pub fn read_words<'a>(alloc: Global, words: &'a [String]) -> Result<Command<'a>,
         "compare" => Ok(Command::Compare(read_compare(alloc, rest)?)),
         "gen" => Ok(Command::Gen(read_gen(alloc, rest)?)),
         "debug" => Ok(Command::Debug(read_debug(alloc, rest)?)),
+        "save" => Ok(Command::Save(read_save(alloc, rest)?)),
+        "resume" => Ok(Command::Resume(read_resume(alloc, rest)?)),
         _ => Err(WordsFault::Refused),
     }
 }

@@ -6,6 +6,7 @@ mod disks;
 mod hostile_guests;
 mod outsides;
 mod sessions;
+mod snapshots;
 
 use mb_board::Native;
 use mb_outside::{MemShelf, MemSink};

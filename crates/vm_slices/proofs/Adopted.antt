@@ -33,6 +33,13 @@ holds_at P [] ram i g less is some = absurd (omega arith)
 holds_at P (k ∷ ks) ram zero g less is some = subst (λ (a : HostGuest). P (member_of ram a)) (sym is) some
 holds_at P (k ∷ ks) ram (suc i) g less is some = holds_at P ks ram i g (omega arith) is some
 
+-- and what is shown of it holds there
+pub held_at : (P : Member → Type 0) (gs : List HostGuest) (ram : List ℕ) (i : ℕ) (g : HostGuest) → i < length gs → g ≡ get_or gs i g
+    → P (member_of ram g) → IfSome (slice_get (members_of gs ram) i) P
+held_at P [] ram i g less is holds = absurd (omega arith)
+held_at P (k ∷ ks) ram zero g less is holds = subst (λ (a : HostGuest). P (member_of ram a)) is holds
+held_at P (k ∷ ks) ram (suc i) g less is holds = held_at P ks ram i g (omega arith) is holds
+
 -- ---- a bound that changes
 
 pub with_bound : (steps from : ℕ) (gs : List HostGuest) (i : ℕ) (r : HostGuest) (x : List ℕ) → StandFrom from gs x → i < length gs

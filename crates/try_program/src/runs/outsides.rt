@@ -17,7 +17,7 @@ struct Command<'a> {
 }
 
 #[rattlefmt::skip]
-static COMMANDS: [Command; 6] = [
+static COMMANDS: [Command; 8] = [
     Command {
         words: "mbx bare hello.s19 --ram 64 --steps 10 --disk 2 --contents disk.s19 --script typed.txt",
         files: &["hello.s19", "typed.txt", "disk.s19"],
@@ -26,6 +26,11 @@ static COMMANDS: [Command; 6] = [
     Command { words: "mbx dis hello.s19 --ram 64 --at 400 --count 3", files: &["hello.s19"] },
     Command { words: "mbx host s.txt", files: &["s.txt", "hello.s19", "typed.txt", "disk.s19", "zeros.s19"] },
     Command { words: "mbx compare s.txt", files: &["s.txt", "hello.s19", "typed.txt", "disk.s19", "zeros.s19"] },
+    Command {
+        words: "mbx save s.txt --steps 3",
+        files: &["s.txt", "hello.s19", "typed.txt", "disk.s19", "zeros.s19"],
+    },
+    Command { words: "mbx resume hello.snap --steps 8", files: &["hello.snap"] },
     Command { words: "mbx gen --seed 1 --guests 1", files: &[] },
 ];
 
@@ -137,7 +142,7 @@ fn out_fails_at_each_call(rt: HostRuntime) {
 
 /// Words over a session of one guest and its image, and the status.
 #[rattlefmt::skip]
-static UNFAILING: [(&str, u8); 15] = [
+static UNFAILING: [(&str, u8); 17] = [
     (HELLO_WORDS, 0),
     (SCRIPT_WORDS, 0),
     ("mbx bare hello.s19 --ram 64 --steps 10 --script hello.s19", 3),
@@ -151,6 +156,8 @@ static UNFAILING: [(&str, u8); 15] = [
     ("mbx dis hello.s19 --ram 64 --at 3ff --count 3", 2),
     ("mbx host s.txt", 0),
     ("mbx compare s.txt", 0),
+    ("mbx save s.txt --steps 2", 0),
+    ("mbx resume s.txt --steps 8", 3),
     ("mbx host other.txt", 3),
     ("mbx compare hello.s19", 3),
 ];

@@ -4,6 +4,7 @@ use super::commands::SOURCE;
 use super::disks::{
     BEYOND, COMMANDS, CONTENTS, COPY, ENDS, LOADS, MAPPED, NARROW, RESETS, STORE, WRAPS,
 };
+use super::snapshots::SAVED;
 use super::{
     Failing, HELLO, HELLO_TEXT, NOTHING, ROOMY, Ran, contains, file, run_over, split_words,
 };
@@ -72,11 +73,12 @@ pub(super) struct Row<'a> {
     pub(super) diag: &'a [u8],
 }
 
-/// A shelf with all images, the contents of a disk, a script that types a line, a source, a session, and a debugger's
-/// commands.
+/// A shelf with all images, the contents of a disk, a script that types a line, a source, a session, a snapshot, and a
+/// debugger's commands.
 fn shelf<'a>(alloc: Global, session: &'a [u8], commands: &'a [u8], fails: u64) -> Option<MemShelf> {
-    let known: [(&str, &[u8]); 23] = [
+    let known: [(&str, &[u8]); 24] = [
         ("s.txt", session),
+        ("hello.snap", SAVED),
         ("debug.txt", commands),
         ("hello.s19", HELLO),
         ("loop.s19", LOOP),

@@ -23,3 +23,9 @@ returns-in-Ok-Compare-clause-ends g c = rw (c.in-Ok-Compare.ensures, c.in-Ok-Com
 
 pub returns-in-Ok-Debug-clause-ends : goal.returns-in-Ok-Debug-clause-ends
 returns-in-Ok-Debug-clause-ends g c = rw (c.in-Ok-Debug.ensures, c.in-Ok-Debug.field-0-is) c.run_debug.ensures
+
+pub returns-in-Ok-Save-clause-ends : goal.returns-in-Ok-Save-clause-ends
+returns-in-Ok-Save-clause-ends g c = rw (c.in-Ok-Save.ensures, c.in-Ok-Save.field-0-is) c.run_save.ensures
+
+pub returns-in-Ok-Resume-clause-ends : goal.returns-in-Ok-Resume-clause-ends
+returns-in-Ok-Resume-clause-ends g c = rw (c.in-Ok-Resume.ensures, c.in-Ok-Resume.field-0-is) c.run_resume.ensures
