@@ -68,34 +68,23 @@ def read_file(name):
 
 # ---- runs of mbx
 
-def add_machine(parser):
+def add_machine(parser, required=True):
     """The words that say which machine `mbx bare` is to run, but for its steps and its script."""
     parser.add_argument("--mbx", metavar="PROGRAM", default=os.path.join(TOP, "mbx"),
                         help="the program to run, such as tools/unproved; ./mbx of the repository by default")
-    parser.add_argument("image", metavar="IMAGE", help="a file of S-records")
-    parser.add_argument("--ram", metavar="KIB", type=number_from(64, 16_384), required=True, help="the machine's RAM")
+    parser.add_argument("image", metavar="IMAGE", nargs=None if required else "?", help="a file of S-records")
+    parser.add_argument("--ram", metavar="KIB", type=number_from(64, 16_384), required=required,
+                        help="the machine's RAM")
     parser.add_argument("--disk", metavar="BLOCKS", type=number_from(1, MOST_BLOCKS), help="a disk of so many blocks")
     parser.add_argument("--contents", metavar="FILE", help="what the disk holds, as S-records")
 
 
-class Machine:
-    """A machine that is run from its start, once or more often."""
+class Program:
+    """A program that is run once or more often."""
 
-    def __init__(self, arguments):
-        self.program = arguments.mbx
-        self.image = arguments.image
-        self.ram = arguments.ram
-        self.blocks = arguments.disk
-        self.contents = arguments.contents
+    def __init__(self, name):
+        self.program = name
         self.was_run = False
-
-    def run(self, steps, script=None, waiting=None):
-        """The text of the outcome after so many steps."""
-        words = ["bare", self.image, "--ram", str(self.ram), "--steps", str(steps)]
-        for name, value in ("disk", self.blocks), ("contents", self.contents), ("script", script):
-            if value is not None:
-                words += [f"--{name}", str(value)]
-        return self.run_words(words, waiting)
 
     def run_words(self, words, waiting=None):
         """What a command prints. `waiting` is called with the seconds that a long run takes."""
@@ -118,6 +107,26 @@ class Machine:
             why = f": {text_of(said)}" if said else ""
             raise Refused(f"{self.program} ended with status {child.returncode}{why}")
         return text
+
+
+class Machine(Program):
+    """A machine that is run from its start, once or more often."""
+    steps_taken = 0
+
+    def __init__(self, arguments):
+        super().__init__(arguments.mbx)
+        self.image = arguments.image
+        self.ram = arguments.ram
+        self.blocks = arguments.disk
+        self.contents = arguments.contents
+
+    def run(self, steps, script=None, waiting=None):
+        """The text of the outcome after so many steps."""
+        words = ["bare", self.image, "--ram", str(self.ram), "--steps", str(steps)]
+        for name, value in ("disk", self.blocks), ("contents", self.contents), ("script", script):
+            if value is not None:
+                words += [f"--{name}", str(value)]
+        return self.run_words(words, waiting)
 
 
 def text_of(said):
@@ -214,16 +223,17 @@ class Guest:
 
 
 class Lines:
-    """The lines of an outcome, read one after the other."""
+    """The lines of an outcome or of a snapshot, read one after the other."""
 
-    def __init__(self, text, name):
+    def __init__(self, text, name, kind="outcome"):
         self.text = text
         self.name = name
+        self.kind = kind
         self.place = 0
 
     def refuse(self):
         line = self.text.count(b"\n", 0, self.place) + 1
-        raise Refused(f"{self.name} line {line}: this is no outcome as mbx prints it")
+        raise Refused(f"{self.name} line {line}: this is no {self.kind} as mbx prints it")
 
     def is_over(self):
         return self.place == len(self.text)
@@ -309,6 +319,98 @@ def chosen(guests, number):
     if number not in guests:
         raise Refused(f"there is no guest {number}")
     return [guests[number]]
+
+
+# ---- snapshots
+
+class Input:
+    """What is to come by a script: bytes, and aborts as None, each with its step."""
+
+    def __init__(self, entries=()):
+        self.entries = list(entries)
+
+    @classmethod
+    def read(cls, lines):
+        """The lines of a snapshot behind `input N`, or of a script that was made here."""
+        made = []
+        for line in lines:
+            found = re.fullmatch("at ([0-9]{1,10}) (?:abort|hex ((?:[0-9A-F]{2})+))", line.rstrip("\n"))
+            if not found:
+                raise Refused(f"'{line.strip()}' is no line of input")
+            made += [(int(found[1]), byte) for byte in bytes.fromhex(found[2])] if found[2] else [(int(found[1]), None)]
+        return cls(made)
+
+    def joined(self, other):
+        """This and another one in order of steps; of one step this comes first."""
+        return Input(sorted(self.entries + other.entries, key=lambda entry: entry[0]))
+
+    def text(self):
+        """Its lines in a snapshot, with their count: a line for each abort and for each run of bytes of one step."""
+        rows = []
+        for step, byte in self.entries:
+            if byte is None:
+                rows.append((step, None))
+            elif rows and rows[-1][0] == step and rows[-1][1] is not None:
+                rows[-1][1].append(byte)
+            else:
+                rows.append((step, [byte]))
+        lines = [f"at {step} " + ("abort" if row is None else f"hex {bytes(row).hex().upper()}") for step, row in rows]
+        return "".join(f"{line}\n" for line in [f"input {len(lines)}", *lines]).encode()
+
+
+class Saved:
+    """A guest of a snapshot: its outcome, what is to come by its script, and where that stands in the text."""
+
+    def __init__(self, guest, script, start, end):
+        self.guest = guest
+        self.script = script
+        self.start = start
+        self.end = end
+
+
+def read_saved(lines):
+    lines.word("ram", "[0-9]{2,5}")
+    for _ in range(int(lines.word("kept", "[0-9]{1,3}"))):
+        lines.match("[SU] [0-9A-F]{5} [0-9A-F]{5} [0-9A-F]")
+    start = lines.place
+    count = int(lines.word("input", "[0-9]{1,10}"))
+    script = Input.read([lines.match("at [0-9]{1,10} (?:abort|hex (?:[0-9A-F]{2})+)")[0] for _ in range(count)])
+    end = lines.place
+    return Saved(read_guest(lines), script, start, end)
+
+
+class Snapshot:
+    """A snapshot, whose guests can be typed to."""
+
+    def __init__(self, text, name):
+        lines = Lines(text, name, "snapshot")
+        lines.match("snapshot 1")
+        lines.word("board", "[0-9]{3,5}")
+        lines.word("slice", "[0-9]{1,10}")
+        self.text = text
+        self.guests = {}
+        for number in range(1, int(lines.word("guests", "[0-9]{1,2}")) + 1):
+            saved = read_saved(lines)
+            if saved.guest.number != number:
+                lines.refuse()
+            self.guests[number] = saved
+        if not lines.is_over():
+            lines.refuse()
+
+    def guest(self, number):
+        """The guest of a number; where none is named the only one."""
+        if number is None and len(self.guests) > 1:
+            raise Refused(f"there are {len(self.guests)} guests, and --guest says which one is meant")
+        if number is not None and number not in self.guests:
+            raise Refused(f"there is no guest {number}")
+        return self.guests[number or 1]
+
+    def typed(self, saved, script):
+        """The text with more input of a guest, all of it at later steps than were taken."""
+        early = [step for step, _ in script.entries if step <= saved.guest.steps]
+        if early:
+            raise Refused(f"step {early[0]} was taken before the snapshot, at step {saved.guest.steps}")
+        return self.text[:saved.start] + saved.script.joined(script).text() + self.text[saved.end:]
 
 
 # ---- rows that are typed
