@@ -12,6 +12,7 @@ ghost use Rattle.try_cases.specs.Passed.{Passed};
 mod bench;
 mod case;
 mod chunk;
+mod code;
 mod difference;
 mod fault;
 mod fields;

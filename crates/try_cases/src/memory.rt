@@ -1,6 +1,7 @@
 //! What stands in RAM.
 
 use crate::chunk::{Chunk, UnsaidBits};
+use crate::code::add_long;
 use crate::fault::CaseFault;
 use crate::fields::{read_bytes, read_long, split_mask};
 use std::alloc::{AllocError, Global};
@@ -16,9 +17,22 @@ pub struct Stretches {
 fn bytes_of(alloc: Global, longs: &[u32]) -> Result<Vec<u8>, AllocError> {
     let mut bytes = Vec::new(alloc);
     for long in longs {
-        bytes.extend_from_slice(&long.to_be_bytes())?;
+        add_long(&mut bytes, *long)?;
     }
     Ok(bytes)
+}
+
+/// A mask of so many bytes; where there is none it has no byte.
+fn read_mask(alloc: Global, digits: Option<&str>, len: usize) -> Result<Vec<u8>, CaseFault> {
+    let Some(digits) = digits else {
+        return Ok(Vec::new(alloc));
+    };
+    let mask = read_bytes(alloc, digits)?;
+    if mask.len() == len {
+        Ok(mask)
+    } else {
+        Err(CaseFault::Mask)
+    }
 }
 
 impl Stretches {
@@ -32,8 +46,8 @@ impl Stretches {
 
     /// Adds bytes from an address on.
     pub fn add(&mut self, at: u32, bytes: Vec<u8>) -> Result<(), CaseFault> {
-        self.chunks
-            .push(Chunk::new(at, bytes).ok_or(CaseFault::Outside)?)?;
+        let chunk = Chunk::new(at, bytes).ok_or(CaseFault::Outside)?;
+        self.chunks.push(chunk)?;
         Ok(())
     }
 
@@ -42,12 +56,18 @@ impl Stretches {
         self.add(at, bytes_of(alloc, longs)?)
     }
 
+    /// Leaves the bits of a byte unsaid that are 0 in a mask.
+    fn leave_bits(&mut self, at: u32, mask: u8) -> Result<(), CaseFault> {
+        let bits = UnsaidBits::new(at, !mask).ok_or(CaseFault::Outside)?;
+        self.unsaid.push(bits)?;
+        Ok(())
+    }
+
     /// Leaves bits unsaid from an address on: those that are 0 in a mask.
     pub fn leave_unsaid(&mut self, at: u32, mask: &[u8]) -> Result<(), CaseFault> {
         let mut at = at;
         for bits in mask {
-            self.unsaid
-                .push(UnsaidBits::new(at, !bits).ok_or(CaseFault::Outside)?)?;
+            self.leave_bits(at, *bits)?;
             at = at.saturating_add(1);
         }
         Ok(())
@@ -59,13 +79,8 @@ impl Stretches {
         let at = read_long(at)?;
         let (digits, mask) = split_mask(rest);
         let bytes = read_bytes(alloc, digits)?;
-        if let Some(mask) = mask {
-            let mask = read_bytes(alloc, mask)?;
-            if mask.len() != bytes.len() {
-                return Err(CaseFault::Mask);
-            }
-            self.leave_unsaid(at, &mask)?;
-        }
+        let mask = read_mask(alloc, mask, bytes.len())?;
+        self.leave_unsaid(at, &mask)?;
         self.add(at, bytes)
     }
 

@@ -1,11 +1,12 @@
 //! What gives the machine of a single instruction its registers.
 
+use crate::code::{add_with_long, add_word};
 use crate::fault::CaseFault;
 use crate::fields::{next_long, next_longs, next_status, read_long};
 use crate::memory::Stretches;
 use crate::registers::{A0, ISP, PC, Registers, SR, USP};
 use mb_instr::SUPERVISOR;
-use std::alloc::Global;
+use std::alloc::{AllocError, Global};
 use std::str::SplitWhitespace;
 
 /// How many steps give the registers and the condition codes.
@@ -30,15 +31,26 @@ fn read_vector(word: &str) -> Result<(u32, u32), CaseFault> {
     Ok((4 * u32::from(number), read_long(handler)?))
 }
 
-/// `MOVEM.L TABLE,D0-D7/A0-A6`, and then `MOVE #n,CCR`, or `MOVE #n,SR` where the case is in user mode.
-fn set_up(table: u32, sr: u32) -> [u8; 12] {
-    let [a, b, c, d] = table.to_be_bytes();
-    let [_, _, high, low] = sr.to_be_bytes();
-    if sr & u32::from(SUPERVISOR) == 0 {
-        [0x4C, 0xF9, 0x7F, 0xFF, a, b, c, d, 0x46, 0xFC, high, low]
+/// `MOVE #n,SR` where the case is in user mode, or `MOVE #n,CCR`, by the word and the immediate.
+fn add_status(code: &mut Vec<u8>, sr: u32) -> Result<(), AllocError> {
+    let status = (sr % 0x1_0000) as u16;
+    if status & SUPERVISOR == 0 {
+        add_word(code, 0x46FC)?;
+        add_word(code, status)
     } else {
-        [0x4C, 0xF9, 0x7F, 0xFF, a, b, c, d, 0x44, 0xFC, 0, low % 32]
+        add_word(code, 0x44FC)?;
+        add_word(code, status % 32)
     }
+}
+
+/// `MOVEM.L TABLE,D0-D7/A0-A6` and the condition codes, and then these words.
+fn code_of(alloc: Global, table: u32, sr: u32, words: &[u8]) -> Result<Vec<u8>, AllocError> {
+    let mut code = Vec::new(alloc);
+    add_word(&mut code, 0x4CF9)?;
+    add_with_long(&mut code, 0x7FFF, table)?;
+    add_status(&mut code, sr)?;
+    code.extend_from_slice(words)?;
+    Ok(code)
 }
 
 impl Single {
@@ -75,9 +87,7 @@ impl Single {
             .checked_sub(SET_UP_BYTES)
             .ok_or(CaseFault::Outside)?;
         image.add_longs(alloc, 0, &[before[ISP], start])?;
-        let mut code = Vec::from_slice(alloc, &set_up(self.table, before[SR]))?;
-        code.extend_from_slice(words)?;
-        image.add(start, code)?;
+        image.add(start, code_of(alloc, self.table, before[SR], words)?)?;
         image.add_longs(alloc, self.table, &before[..USP])
     }
 }

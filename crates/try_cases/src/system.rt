@@ -2,13 +2,11 @@
 
 use crate::case::PERIOD;
 use crate::chunk::RAM_SIZE;
+use crate::code::{add_long, add_with_long, add_word};
 use crate::fault::CaseFault;
 use crate::fields::{next_long, next_longs, next_status, next_word};
 use crate::memory::Stretches;
-use crate::registers::{
-    A0, CACR, D0, DFC, DTT0, DTT1, ISP, ITT0, ITT1, MMUSR, MSP, PC, Registers, SFC, SR, SRP, TC,
-    URP, USP, VBR,
-};
+use crate::registers::{A0, COUNT, D0, ISP, ITT0, MSP, PC, Registers, SR, TC, URP, USP, VBR};
 use mb_instr::MASTER;
 use std::alloc::{AllocError, Global};
 use std::str::SplitWhitespace;
@@ -34,21 +32,19 @@ pub struct System {
 
 /// `MOVE.L #value,D0` and `MOVEC D0,register`.
 fn add_control(code: &mut Vec<u8>, register: u16, value: u32) -> Result<(), AllocError> {
-    let [a, b, c, d] = value.to_be_bytes();
-    let [high, low] = register.to_be_bytes();
-    code.extend_from_slice(&[0x20, 0x3C, a, b, c, d, 0x4E, 0x7B, high, low])
+    add_with_long(code, 0x203C, value)?;
+    add_word(code, 0x4E7B)?;
+    add_word(code, register)
 }
 
-/// The control registers but TC.
-#[rattlefmt::skip]
-fn add_controls(code: &mut Vec<u8>, before: &Registers) -> Result<(), AllocError> {
-    let registers = [0x801, 0, 1, 2, 4, 5, 6, 7, 0x805, 0x806, 0x807, 0x800];
-    let values = [
-        before[VBR], before[SFC], before[DFC], before[CACR],
-        before[ITT0], before[ITT1], before[DTT0], before[DTT1],
-        before[MMUSR], before[URP], before[SRP], before[USP],
-    ];
-    for (register, value) in registers.iter().zip(&values) {
+/// The numbers by which `MOVEC` names the registers from VBR to CACR, and those from URP to MMUSR.
+static FROM_VBR: [u16; 4] = [0x801, 0, 1, 2];
+
+static FROM_URP: [u16; 7] = [0x806, 0x807, 4, 5, 6, 7, 0x805];
+
+/// Control registers that follow one another.
+fn add_controls(code: &mut Vec<u8>, registers: &[u16], values: &[u32]) -> Result<(), AllocError> {
+    for (register, value) in registers.iter().zip(values) {
         add_control(code, *register, *value)?;
     }
     Ok(())
@@ -58,58 +54,72 @@ fn add_controls(code: &mut Vec<u8>, before: &Registers) -> Result<(), AllocError
 fn add_values(code: &mut Vec<u8>, first: u16, values: &[u32]) -> Result<(), AllocError> {
     let mut word = first;
     for value in values {
-        let [high, low] = word.to_be_bytes();
-        let [a, b, c, d] = value.to_be_bytes();
-        code.extend_from_slice(&[high, low, a, b, c, d])?;
+        add_with_long(code, word, *value)?;
         word = word.wrapping_add(0x200);
     }
     Ok(())
 }
 
-/// `MOVE #status,SR` and `MOVEA.L #top,A7`, with the high byte of the status register.
-fn add_stack(code: &mut Vec<u8>, status: u8, top: u32) -> Result<(), AllocError> {
-    let [a, b, c, d] = top.to_be_bytes();
-    code.extend_from_slice(&[0x46, 0xFC, status, 0, 0x2E, 0x7C, a, b, c, d])
+/// `MOVE #status,SR` and `MOVEA.L #top,A7`.
+fn add_stack(code: &mut Vec<u8>, status: u16, top: u32) -> Result<(), AllocError> {
+    add_word(code, 0x46FC)?;
+    add_word(code, status)?;
+    add_with_long(code, 0x2E7C, top)
 }
 
 /// The stack that M does not choose, and then the one that it does, which has the frame of the RTE.
 fn add_stacks(code: &mut Vec<u8>, before: &Registers) -> Result<(), AllocError> {
     if before[SR] & u32::from(MASTER) == 0 {
-        add_stack(code, 0x37, before[MSP])?;
-        add_stack(code, 0x27, before[ISP].wrapping_sub(8))
+        add_stack(code, 0x3700, before[MSP])?;
+        add_stack(code, 0x2700, before[ISP].wrapping_sub(8))
     } else {
-        add_stack(code, 0x27, before[ISP])?;
-        add_stack(code, 0x37, before[MSP].wrapping_sub(8))
+        add_stack(code, 0x2700, before[ISP])?;
+        add_stack(code, 0x3700, before[MSP].wrapping_sub(8))
     }
 }
 
 /// TC, `PFLUSHA`, D0 and the RTE.
 fn add_end(code: &mut Vec<u8>, before: &Registers) -> Result<(), AllocError> {
     add_control(code, 3, before[TC])?;
-    let [a, b, c, d] = before[D0].to_be_bytes();
-    code.extend_from_slice(&[0xF5, 0x18, 0x20, 0x3C, a, b, c, d, 0x4E, 0x73])
+    add_word(code, 0xF518)?;
+    add_with_long(code, 0x203C, before[D0])?;
+    add_word(code, 0x4E73)
+}
+
+/// All registers.
+fn add_registers(code: &mut Vec<u8>, before: &Registers) -> Result<(), AllocError> {
+    add_controls(code, &FROM_VBR, &before[VBR..TC])?;
+    add_controls(code, &FROM_URP, &before[URP..])?;
+    add_control(code, 0x800, before[USP])?;
+    add_values(code, 0x223C, &before[D0 + 1..A0])?;
+    add_values(code, 0x207C, &before[A0..USP])?;
+    add_stacks(code, before)?;
+    add_end(code, before)
+}
+
+/// `MOVE.L #PERIOD` to the timer's period.
+fn add_timer(code: &mut Vec<u8>) -> Result<(), AllocError> {
+    add_with_long(code, 0x23FC, PERIOD)?;
+    add_long(code, 0xFFF0_0010)
 }
 
 /// The code.
 fn code_of(alloc: Global, interrupted: bool, before: &Registers) -> Result<Vec<u8>, AllocError> {
     let mut code = Vec::new(alloc);
     if interrupted {
-        let [a, b, c, d] = PERIOD.to_be_bytes();
-        code.extend_from_slice(&[0x23, 0xFC, a, b, c, d, 0xFF, 0xF0, 0, 0x10])?;
+        add_timer(&mut code)?;
     }
-    add_controls(&mut code, before)?;
-    add_values(&mut code, 0x223C, &before[D0 + 1..A0])?;
-    add_values(&mut code, 0x207C, &before[A0..USP])?;
-    add_stacks(&mut code, before)?;
-    add_end(&mut code, before)?;
+    add_registers(&mut code, before)?;
     Ok(code)
 }
 
-/// The frame that the RTE takes.
+/// The frame that the RTE takes: SR, PC, and format 0.
 fn frame_of(alloc: Global, before: &Registers) -> Result<Vec<u8>, AllocError> {
-    let [_, _, high, low] = before[SR].to_be_bytes();
-    let [a, b, c, d] = before[PC].to_be_bytes();
-    Vec::from_slice(alloc, &[high, low, a, b, c, d, 0, 0])
+    let mut frame = Vec::new(alloc);
+    add_word(&mut frame, (before[SR] % 0x1_0000) as u16)?;
+    add_long(&mut frame, before[PC])?;
+    add_word(&mut frame, 0)?;
+    Ok(frame)
 }
 
 /// The vectors 2 to 63: an address for each, at which no instruction is carried out.
@@ -117,9 +127,28 @@ fn vectors(alloc: Global) -> Result<Vec<u8>, AllocError> {
     let mut bytes = Vec::new(alloc);
     for n in 2..64 {
         let handler: u32 = 0x00D0_1000 + 32 * n;
-        bytes.extend_from_slice(&handler.to_be_bytes())?;
+        add_long(&mut bytes, handler)?;
     }
     Ok(bytes)
+}
+
+/// The registers that stand in one word, in the order of the words: from a place on, up to another.
+static GROUPS: [(usize, usize); 6] = [
+    (VBR, TC),
+    (TC, ITT0),
+    (ITT0, COUNT),
+    (USP, PC),
+    (D0, A0),
+    (A0, USP),
+];
+
+/// `IRQ`, or no word.
+fn read_interrupted(word: Option<&str>) -> Result<bool, CaseFault> {
+    match word {
+        None => Ok(false),
+        Some(word) if matches!(word.as_bytes(), b"IRQ") => Ok(true),
+        Some(_) => Err(CaseFault::Further),
+    }
 }
 
 impl System {
@@ -135,17 +164,11 @@ impl System {
         let frame = next_long(words)?;
         before[PC] = next_long(words)?;
         before[SR] = next_status(words)?;
-        next_longs(words, &mut before[VBR..TC])?;
-        next_longs(words, &mut before[TC..ITT0])?;
-        next_longs(words, &mut before[ITT0..])?;
-        next_longs(words, &mut before[USP..PC])?;
-        next_longs(words, &mut before[..A0])?;
-        next_longs(words, &mut before[A0..USP])?;
-        let interrupted = match words.next() {
-            None => false,
-            Some(word) if matches!(word.as_bytes(), b"IRQ") => true,
-            Some(_) => return Err(CaseFault::Further),
-        };
+        for &(from, to) in &GROUPS {
+            let group = before.get_mut(from..to).ok_or(CaseFault::Missing)?;
+            next_longs(words, group)?;
+        }
+        let interrupted = read_interrupted(words.next())?;
         Ok(System {
             steps,
             interrupted,
