@@ -1,35 +1,38 @@
 //! What is wrong with a file, as it is printed.
 
-use crate::{records, scripts};
 use mb_script::{LineFault, LineWhy};
 use mb_srec::{ImageFault, RecordWhy};
 use std::test::Fail;
 
+#[rattlefmt::skip]
+static OF_IMAGES: [(ImageFault, &str); 9] = [
+    (ImageFault::Memory, "no memory"),
+    (ImageFault::Line { number: 1, why: RecordWhy::Kind }, "line 1: kind"),
+    (ImageFault::Line { number: 20, why: RecordWhy::Digits }, "line 20: digits"),
+    (ImageFault::Line { number: 3, why: RecordWhy::Length }, "line 3: length"),
+    (ImageFault::Line { number: 4, why: RecordWhy::Sum }, "line 4: sum"),
+    (ImageFault::Line { number: 5, why: RecordWhy::Count }, "line 5: count"),
+    (ImageFault::Line { number: 6, why: RecordWhy::After }, "line 6: after"),
+    (ImageFault::Outside { at: 0x1_0000 }, "outside 00010000"),
+    (ImageFault::NoEnd, "no end"),
+];
+
+#[rattlefmt::skip]
+static OF_SCRIPTS: [(LineFault, &str); 6] = [
+    (LineFault::Memory, "no memory"),
+    (LineFault::Line { number: 1, why: LineWhy::Word }, "line 1: word"),
+    (LineFault::Line { number: 20, why: LineWhy::Number }, "line 20: number"),
+    (LineFault::Line { number: 3, why: LineWhy::Digits }, "line 3: digits"),
+    (LineFault::Line { number: 4, why: LineWhy::Order }, "line 4: order"),
+    (LineFault::Line { number: 5, why: LineWhy::Many }, "line 5: many"),
+];
+
 #[test]
 fn prints_faults(rt: HostRuntime) -> Result<(), Fail> {
-    let of_images = [
-        (ImageFault::Memory, "no memory"),
-        (records::line(1, RecordWhy::Kind), "line 1: kind"),
-        (records::line(20, RecordWhy::Digits), "line 20: digits"),
-        (records::line(3, RecordWhy::Length), "line 3: length"),
-        (records::line(4, RecordWhy::Sum), "line 4: sum"),
-        (records::line(5, RecordWhy::Count), "line 5: count"),
-        (records::line(6, RecordWhy::After), "line 6: after"),
-        (ImageFault::Outside { at: 0x1_0000 }, "outside 00010000"),
-        (ImageFault::NoEnd, "no end"),
-    ];
-    for (fault, want) in of_images {
+    for &(fault, want) in &OF_IMAGES {
         assert!(rt; fault.to_string(rt.alloc())?.as_str() == want, "{want}");
     }
-    let of_scripts = [
-        (LineFault::Memory, "no memory"),
-        (scripts::line(1, LineWhy::Word), "line 1: word"),
-        (scripts::line(20, LineWhy::Number), "line 20: number"),
-        (scripts::line(3, LineWhy::Digits), "line 3: digits"),
-        (scripts::line(4, LineWhy::Order), "line 4: order"),
-        (scripts::line(5, LineWhy::Many), "line 5: many"),
-    ];
-    for (fault, want) in of_scripts {
+    for &(fault, want) in &OF_SCRIPTS {
         assert!(rt; fault.to_string(rt.alloc())?.as_str() == want, "{want}");
     }
     Ok(())

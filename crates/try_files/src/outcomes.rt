@@ -68,6 +68,13 @@ CTRL 00000000\nSTATUS 00000002\nPERIOD 00000000\nCOUNT 00000000\nPENDING 0000000
 00000410 00200000000000000000000000000000\n\
 end\n";
 
+/// The room of a sink, and what it takes.
+static ROOMS: [(usize, Result<(), SinkFault>); 3] = [
+    (100, Err(SinkFault)),
+    (666, Err(SinkFault)),
+    (667, Ok(())),
+];
+
 /// A program that prints one character and switches the machine off, after its three steps.
 #[test]
 fn writes_a_program_that_ended(rt: HostRuntime) {
@@ -88,7 +95,7 @@ fn writes_a_program_that_ended(rt: HostRuntime) {
     };
     let text = WORKED.as_bytes();
     assert!(rt; text.len() == 667);
-    for (room, want) in [(100, Err(SinkFault)), (666, Err(SinkFault)), (667, Ok(()))] {
+    for &(room, want) in &ROOMS {
         let mut out = MemSink::new(rt.alloc(), room, Vec::new(rt.alloc())).expect(
             &rt,
             "ample memory",
@@ -174,11 +181,16 @@ fn writes_every_place(rt: HostRuntime) {
     assert!(rt; out.bytes() == FULL.as_bytes());
 }
 
+static STATES: [(RunState, &str); 2] = [
+    (RunState::Stopped, "stopped"),
+    (RunState::Halted, "halted"),
+];
+
 /// The other states, of a machine that has nothing to show.
 #[test]
 fn writes_states(rt: HostRuntime) {
     let cpu = Cpu::at_reset(0, 0);
-    for (state, want) in [(RunState::Stopped, "stopped"), (RunState::Halted, "halted")] {
+    for &(state, want) in &STATES {
         let outcome = Outcome {
             state,
             ..nothing(&cpu, &NO_MMU)
@@ -195,63 +207,45 @@ fn writes_states(rt: HostRuntime) {
     }
 }
 
+/// How many things there are in which outcomes can differ.
+const DIFFERENCES: usize = 13;
+
+/// An outcome that differs from that of such a processor in one thing.
+fn changed<'a>(place: usize, cpu: &'a Cpu, other: &'a Cpu, mmu: &'a Mmu) -> Outcome<'a> {
+    let mut outcome = nothing(cpu, &NO_MMU);
+    match place {
+        0 => outcome.cpu = other,
+        1 => outcome.mmu = mmu,
+        2 => outcome.console = b"A",
+        3 => outcome.lost = 1,
+        4 => outcome.queue = queue_of(&[0]),
+        5 => outcome.ctrl = 1,
+        6 => outcome.status = 3,
+        7 => outcome.period = 1,
+        8 => outcome.count = 1,
+        9 => outcome.pending = 1,
+        10 => outcome.steps = 1,
+        11 => outcome.state = RunState::Off,
+        _ => outcome.ram = &[0; 16],
+    }
+    outcome
+}
+
 /// Two outcomes that differ in one thing, whichever it is, are not the same.
 #[test]
 fn tells_outcomes_apart(rt: HostRuntime) {
     let cpu = Cpu::at_reset(8, 4);
-    let other = Cpu {
-        dfc: 1,
-        ..Cpu::at_reset(8, 4)
-    };
+    let other = Cpu { dfc: 1, ..cpu };
     let mmu = Mmu {
         srp: 0x200,
         ..NO_MMU
     };
-    let first = || nothing(&cpu, &NO_MMU);
-    let others = [
-        nothing(&other, &NO_MMU),
-        nothing(&cpu, &mmu),
-        Outcome {
-            console: b"A",
-            ..first()
-        },
-        Outcome { lost: 1, ..first() },
-        Outcome {
-            queue: queue_of(&[0]),
-            ..first()
-        },
-        Outcome { ctrl: 1, ..first() },
-        Outcome {
-            status: 3,
-            ..first()
-        },
-        Outcome {
-            period: 1,
-            ..first()
-        },
-        Outcome {
-            count: 1,
-            ..first()
-        },
-        Outcome {
-            pending: 1,
-            ..first()
-        },
-        Outcome {
-            steps: 1,
-            ..first()
-        },
-        Outcome {
-            state: RunState::Off,
-            ..first()
-        },
-        Outcome {
-            ram: &[0; 16],
-            ..first()
-        },
-    ];
-    assert!(rt; same(&first(), &nothing(&Cpu::at_reset(8, 4), &NO_MMU)));
-    for (i, outcome) in others.iter().enumerate() {
-        assert!(rt; !same(&first(), outcome), "{i}");
+    let first = nothing(&cpu, &NO_MMU);
+    assert!(rt; same(&first, &nothing(&Cpu::at_reset(8, 4), &NO_MMU)));
+    for place in 0..DIFFERENCES {
+        assert!(rt;
+            !same(&first, &changed(place, &cpu, &other, &mmu)),
+            "{place}"
+        );
     }
 }

@@ -100,7 +100,7 @@ fn reads_images(rt: HostRuntime) -> Result<(), Fail> {
     Ok(())
 }
 
-pub(super) const fn line(number: u32, why: RecordWhy) -> ImageFault {
+const fn line(number: u32, why: RecordWhy) -> ImageFault {
     ImageFault::Line { number, why }
 }
 
@@ -179,6 +179,12 @@ S31500010000303132333435363738393A3B3C3D3E3F71\n\
 S30A0001001040414243449A\n\
 S70500000000FA\n";
 
+static WRITTEN_CONTENTS: [Content; 3] = [
+    (0xFFF0, b" !\"#$%&'()*+,-./"),
+    (0x10000, b"0123456789:;<=>?"),
+    (0x10010, b"@ABCD"),
+];
+
 #[test]
 fn writes_images(rt: HostRuntime) -> Result<(), Fail> {
     let bytes = Vec::from_slice(rt.alloc(), b" !\"#$%&'()*+,-./0123456789:;<=>?@ABCD")?;
@@ -190,11 +196,6 @@ fn writes_images(rt: HostRuntime) -> Result<(), Fail> {
     assert!(rt; text.as_slice() == WRITTEN);
     written_reads_back();
     let read = read_image(rt.alloc(), WRITTEN, 0x10015)?;
-    let want: [Content; 3] = [
-        (0xFFF0, b" !\"#$%&'()*+,-./"),
-        (0x10000, b"0123456789:;<=>?"),
-        (0x10010, b"@ABCD"),
-    ];
-    assert!(rt; has_contents(&read, &want));
+    assert!(rt; has_contents(&read, &WRITTEN_CONTENTS));
     Ok(())
 }

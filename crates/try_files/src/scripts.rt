@@ -101,7 +101,7 @@ fn reads_scripts(rt: HostRuntime) -> Result<(), Fail> {
     Ok(())
 }
 
-pub(super) const fn line(number: u32, why: LineWhy) -> LineFault {
+const fn line(number: u32, why: LineWhy) -> LineFault {
     LineFault::Line { number, why }
 }
 
@@ -436,14 +436,8 @@ fn check_faults(
 
 #[test]
 fn tells_faults_of_sessions(rt: HostRuntime) -> Result<(), Fail> {
-    let tables: [(&[u8], &[Faulty]); 4] = [
-        (b"", &FAULTS_OF_HEADS),
-        (HEAD, &FAULTS_OF_GUESTS),
-        (SIXTEEN, &FAULTS_OF_A_SEVENTEENTH),
-        (TWO, &FAULTS_OF_TURNS),
-    ];
-    for (first, faults) in tables {
-        check_faults(&rt, rt.alloc(), first, faults)?;
-    }
-    Ok(())
+    check_faults(&rt, rt.alloc(), b"", &FAULTS_OF_HEADS)?;
+    check_faults(&rt, rt.alloc(), HEAD, &FAULTS_OF_GUESTS)?;
+    check_faults(&rt, rt.alloc(), SIXTEEN, &FAULTS_OF_A_SEVENTEENTH)?;
+    check_faults(&rt, rt.alloc(), TWO, &FAULTS_OF_TURNS)
 }

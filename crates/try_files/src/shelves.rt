@@ -53,24 +53,25 @@ fn check_pieces<S: Shelf>(rt: &impl Abort, alloc: Global, shelf: &mut S, pieces:
     }
 }
 
+static IN_MEMORY: [Piece; 11] = [
+    ("hello", 0, 8, Ok(b"hello")),
+    ("hello", 0, 5, Ok(b"hello")),
+    ("hello", 0, 8, FAILED),
+    ("hello", 0, 3, Ok(b"hel")),
+    ("hello", 3, 8, Ok(b"lo")),
+    ("hello", 4, 1, Ok(b"o")),
+    ("hello", 4, 0, Ok(b"")),
+    ("hello", 5, 8, Ok(b"")),
+    ("hello", u64::MAX, 8, Ok(b"")),
+    ("empty", 0, 8, Ok(b"")),
+    ("missing", 0, 8, FAILED),
+];
+
 /// A shelf in memory, and one of real files.
 #[test]
 fn shelves_give_pieces(rt: HostRuntime) {
-    let in_memory: [Piece; 11] = [
-        ("hello", 0, 8, Ok(b"hello")),
-        ("hello", 0, 5, Ok(b"hello")),
-        ("hello", 0, 8, FAILED),
-        ("hello", 0, 3, Ok(b"hel")),
-        ("hello", 3, 8, Ok(b"lo")),
-        ("hello", 4, 1, Ok(b"o")),
-        ("hello", 4, 0, Ok(b"")),
-        ("hello", 5, 8, Ok(b"")),
-        ("hello", u64::MAX, 8, Ok(b"")),
-        ("empty", 0, 8, Ok(b"")),
-        ("missing", 0, 8, FAILED),
-    ];
     let mut shelf = mem_shelf(rt.alloc(), 3).expect(&rt, "ample memory");
-    check_pieces(&rt, rt.alloc(), &mut shelf, &in_memory);
+    check_pieces(&rt, rt.alloc(), &mut shelf, &IN_MEMORY);
     let folder = env::temp_dir(&rt).expect(&rt, "a folder");
     let path = folder
         .join(rt.alloc(), "mb_outside.txt")
@@ -102,54 +103,60 @@ fn load_len<S: Shelf>(
     Ok(bytes.len())
 }
 
+/// A file, how many bytes are asked for at most, the call that fails, and how many are loaded.
+static FAILING: [(&str, usize, u64, Result<usize, LoadFault>); 12] = [
+    ("hello", 6, 0, Ok(5)),
+    ("hello", 5, 0, Ok(5)),
+    ("hello", 4, 0, Err(LoadFault::TooLong)),
+    ("hello", 0, 0, Err(LoadFault::TooLong)),
+    ("empty", 0, 0, Ok(0)),
+    ("missing", 5, 0, Err(LoadFault::Failed)),
+    ("long", 70_000, 0, Ok(70_000)),
+    ("long", 69_999, 0, Err(LoadFault::TooLong)),
+    ("long", 70_000, 1, Err(LoadFault::Failed)),
+    ("long", 70_000, 2, Err(LoadFault::Failed)),
+    ("long", 70_000, 3, Err(LoadFault::Failed)),
+    ("long", 70_000, 4, Ok(70_000)),
+];
+
+/// The same, where no call fails.
+static UNFAILING: [(&str, usize, Result<usize, LoadFault>); 4] = [
+    ("hello", 5, Ok(5)),
+    ("hello", 4, Err(LoadFault::TooLong)),
+    ("missing", 5, Ok(0)),
+    ("missing", 0, Ok(0)),
+];
+
 /// From a shelf of which a call fails, and from one that never fails.
 #[test]
 fn load_reads_whole_files(rt: HostRuntime) {
-    let failing: [(&str, usize, u64, Result<usize, LoadFault>); 12] = [
-        ("hello", 6, 0, Ok(5)),
-        ("hello", 5, 0, Ok(5)),
-        ("hello", 4, 0, Err(LoadFault::TooLong)),
-        ("hello", 0, 0, Err(LoadFault::TooLong)),
-        ("empty", 0, 0, Ok(0)),
-        ("missing", 5, 0, Err(LoadFault::Failed)),
-        ("long", 70_000, 0, Ok(70_000)),
-        ("long", 69_999, 0, Err(LoadFault::TooLong)),
-        ("long", 70_000, 1, Err(LoadFault::Failed)),
-        ("long", 70_000, 2, Err(LoadFault::Failed)),
-        ("long", 70_000, 3, Err(LoadFault::Failed)),
-        ("long", 70_000, 4, Ok(70_000)),
-    ];
-    for (name, most, fails, want) in failing {
+    for &(name, most, fails, want) in &FAILING {
         let mut shelf = mem_shelf(rt.alloc(), fails).expect(&rt, "ample memory");
         let got = load_len(rt.alloc(), &mut shelf, name, most);
         assert!(rt; got == want, "{name} of at most {most}, fails {fails}");
     }
-    let unfailing: [(&str, usize, Result<usize, LoadFault>); 4] = [
-        ("hello", 5, Ok(5)),
-        ("hello", 4, Err(LoadFault::TooLong)),
-        ("missing", 5, Ok(0)),
-        ("missing", 0, Ok(0)),
-    ];
     let mut shelf = NoFailShelf::new(files(rt.alloc()).expect(&rt, "ample memory"));
-    for (name, most, want) in unfailing {
+    for &(name, most, want) in &UNFAILING {
         let got = load_len(rt.alloc(), &mut shelf, name, most);
         assert!(rt; got == want, "{name} of at most {most}");
     }
 }
 
+/// The room of a sink, the call that fails, and what it answers and takes of two texts.
+static TAKEN: [(usize, u64, Result<(), SinkFault>, &[u8]); 8] = [
+    (0, 0, Err(SinkFault), b""),
+    (1, 0, Err(SinkFault), b"h"),
+    (4, 0, Err(SinkFault), b"hell"),
+    (5, 0, Err(SinkFault), b"hello"),
+    (6, 0, Ok(()), b"hello!"),
+    (9, 0, Ok(()), b"hello!"),
+    (9, 1, Err(SinkFault), b""),
+    (9, 2, Err(SinkFault), b"hello"),
+];
+
 #[test]
 fn a_sink_takes_what_has_room(rt: HostRuntime) {
-    let rows: [(usize, u64, Result<(), SinkFault>, &[u8]); 8] = [
-        (0, 0, Err(SinkFault), b""),
-        (1, 0, Err(SinkFault), b"h"),
-        (4, 0, Err(SinkFault), b"hell"),
-        (5, 0, Err(SinkFault), b"hello"),
-        (6, 0, Ok(()), b"hello!"),
-        (9, 0, Ok(()), b"hello!"),
-        (9, 1, Err(SinkFault), b""),
-        (9, 2, Err(SinkFault), b"hello"),
-    ];
-    for (room, fails, want, bytes) in rows {
+    for &(room, fails, want, bytes) in &TAKEN {
         let listed = Vec::from_slice(rt.alloc(), &[fails]).expect(&rt, "ample memory");
         let mut sink = MemSink::new(rt.alloc(), room, listed).expect(&rt, "ample memory");
         let first = put_all(&mut sink, b"hello");
