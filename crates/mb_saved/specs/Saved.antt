@@ -82,14 +82,18 @@ pub record IsLine (size : ℕ) (line : RamLine) : Type 0 where
 abbrev pub AgreesWith : List ℕ → ℕ → Type 0
 AgreesWith queue status = status ≡ from_bool (not (length queue == 0)) + 2 + 4 * (status / 4 % 2)
 
+-- As many entries as a guest keeps at most, each of a page and of a frame, and at most one of a space and page.
+pub record CanBeKept (kept : List Kept) : Type 0 where
+  pub few : length kept ≤ rule_k.capacity
+  pub names : All NamesPages kept
+  pub apart : Apart kept
+
 -- A guest's machine can be so. What stands in RAM, and whether what is kept lies in it, is left open.
 pub record IsLawful (s : Saved) : Type 0 where
   pub ram : IsRamBytes s.ram
   pub bits : HasBits s.cpu s.mmu
   pub stopped : s.cpu.stopped ≡ is_stopped s.state
-  pub few : length s.kept ≤ rule_k.capacity
-  pub names : All NamesPages s.kept
-  pub apart : Apart s.kept
+  pub kept : CanBeKept s.kept
   pub lines : All (IsLine s.ram) s.lines
   pub in_order : AllPairs (λ first later. first.at < later.at) s.lines
   pub console : length s.console ≤ MOST_SENT

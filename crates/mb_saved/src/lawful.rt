@@ -8,7 +8,7 @@ ghost use Rattle.mb_port.specs.Registers.{mmu_register};
 ghost use Rattle.mb_instr.specs.declared.control.ControlRegister.TheVariants as control;
 ghost use Rattle.mb_instr.specs.Control.{kept_bits};
 ghost use Rattle.mb_model.specs.Keeping.{rule_k, Apart, NamesPages};
-ghost use Rattle.mb_saved.specs.Saved.{is_stopped, is_zero, AgreesWith, Fits, HasBits, IsLawful, IsLine, IsRamBytes};
+ghost use Rattle.mb_saved.specs.Saved.{is_stopped, is_zero, AgreesWith, CanBeKept, Fits, HasBits, IsLawful, IsLine, IsRamBytes};
 
 use crate::line::RamLine;
 use crate::rooms::{LINE_BYTES, MOST_QUEUED, MOST_RAM, MOST_SENT, RAM_UNIT};
@@ -109,7 +109,7 @@ fn are_apart(kept: &[Kept]) -> bool
 
 /// Whether so much can be kept.
 fn can_be_kept(kept: &[Kept]) -> bool
-    ensures { IsTrue result ↔ ((length kept.now ≤ rule_k.capacity) × All NamesPages kept.now × Apart kept.now) }
+    ensures { IsTrue result ↔ CanBeKept kept.now }
 {
     kept.len() <= GUEST_CAPACITY as usize && all_name_pages(kept) && are_apart(kept)
 }

@@ -19,7 +19,8 @@ use Rattle.mb_saved.specs.Saved.{Saved, IsLine}
 use Rattle.mb_devices.specs.Devices.{DeviceState}
 use Rattle.vm_disk.specs.Disk.{DiskState}
 use Rattle.mb_devices.specs.Adopted.{devices_of}
-use Rattle.vm_saved.specs.Saved.{content_of, contents_of, machine_of, ram_by}
+use Rattle.mb_saved.specs.Lines.{content_of, contents_of, ram_by}
+use Rattle.vm_saved.specs.Saved.{machine_of}
 use Rattle.mb_port.specs.declared.types.Mmu.{Mmu}
 use Rattle.mb_walk.specs.Memory.{Contents, overwritten, part, with_contents}
 use Rattle.vm_shadow.specs.Area.{Maps}

@@ -1,15 +1,15 @@
 //! A guest that goes on from a saved machine.
 
 ghost use Rattle.std.specs.Prelude.{◌≡◌, ◌+◌, ◌^◌, ◌<◌, ◌≤◌, [], length, slice_get, All};
-ghost use Rattle.mb_model.specs.Keeping.{rule_k, Apart, NamesPages};
 ghost use Rattle.mb_srec.specs.Image.{LiesBelow};
 ghost use Rattle.mb_walk.specs.Memory.{overwritten, with_contents};
 ghost use Rattle.def_machine.specs.Machine.{with_ram};
 ghost use Rattle.mb_board.specs.Beside.{but_ram};
 ghost use Rattle.mb_board.specs.State.{machine_in, with_machine};
-ghost use Rattle.mb_saved.specs.Saved.{IsLawful};
+ghost use Rattle.mb_saved.specs.Lines.{content_of, contents_of};
+ghost use Rattle.mb_saved.specs.Saved.{CanBeKept, IsLawful};
 ghost use Rattle.def_guests.specs.Seats.{turned_on, IsSame, IsSeated};
-ghost use Rattle.vm_saved.specs.Saved.{content_of, contents_of, machine_of};
+ghost use Rattle.vm_saved.specs.Saved.{machine_of};
 ghost use Rattle.vm_saved.specs.Begins.{beginning};
 ghost use Rattle.vm_guest.specs.Memory.{chunk_from, contents_from, OnlyBetween};
 
@@ -50,9 +50,7 @@ fn load_lines(board: &mut Board, base: u32, lines: &[RamLine])
 
 /// Keeps these entries and no others, in their order.
 fn adopt_kept(tlb: &mut Tlb, kept: &[Kept])
-    requires few { length kept.now ≤ rule_k.capacity }
-    requires names { All NamesPages kept.now }
-    requires apart { Apart kept.now }
+    requires { CanBeKept kept.now }
     ensures { tlb.new ≡ kept.now }
 {
     tlb.flush(Flush::All);
@@ -94,7 +92,7 @@ impl Guest {
     /// What the guest keeps, from the oldest on. `None` exactly where the place is not below the count.
     pub fn kept(&self, place: u32) -> Option<Kept>
         ensures entry { result ≡ slice_get self.now.kept place }
-        ensures few { length self.now.kept ≤ rule_k.capacity }
+        ensures kept { CanBeKept self.now.kept }
     {
         self.tlb.entry(place)
     }

@@ -8,3 +8,5 @@ pub mod StatusBits
 pub mod CpuBits
 pub mod RunBits
 pub mod Saving
+pub mod Rooms
+pub mod Lawful

@@ -27,8 +27,8 @@ use Rattle.def_machine.proofs.Beneath.{calls_stand_beneath, places_stand_beneath
 use Rattle.def_machine.proofs.Builds.{built-run}
 use Rattle.def_machine.proofs.RunsLeave.{runs_leave}
 use Rattle.mb_saved.specs.declared.line.RamLine.{RamLine}
+use Rattle.mb_saved.specs.Lines.{content_of, contents_of, ram_by}
 use Rattle.mb_saved.specs.Saved.{IsLine, is_off, is_stopped}
-use Rattle.vm_saved.specs.Saved.{content_of, contents_of, ram_by}
 use Rattle.vm_saved.specs.Saving.{RunsCanBeSaved, RunsKeepLists, SavedCanBeSaved, StartsCanBeSaved}
 use Rattle.vm_saved.proofs.Runs.{runs_are_going}
 
@@ -46,7 +46,7 @@ contents_count ram ((at, bytes) ∷ chunks) lie =
     contents_count (overwritten ram at bytes) chunks (subst (λ (n : ℕ). All (LiesBelow n) chunks) (sym same) (All-tail below (at, bytes) chunks lie))
     ∙ same
 
-loaded_count : (size : ℕ) (contents : Contents) → All (LiesBelow size) contents → length (with_contents (replicate size 0) contents) ≡ size
+pub loaded_count : (size : ℕ) (contents : Contents) → All (LiesBelow size) contents → length (with_contents (replicate size 0) contents) ≡ size
 loaded_count size contents lie =
     let zeros : length (replicate size 0) ≡ size = length-replicate size 0 in
     contents_count (replicate size 0) contents (subst (λ (n : ℕ). All (LiesBelow n) contents) (sym zeros) lie) ∙ zeros
@@ -54,7 +54,7 @@ loaded_count size contents lie =
 line_lies : (size : ℕ) (line : RamLine) → IsLine size line → LiesBelow size (content_of line)
 line_lies size line l = let inside = l.inside in let count = l.count in λ some. omega arith
 
-lines_count : (size : ℕ) (lines : List RamLine) → All (IsLine size) lines → length (ram_by size lines) ≡ size
+pub lines_count : (size : ℕ) (lines : List RamLine) → All (IsLine size) lines → length (ram_by size lines) ≡ size
 lines_count size lines are =
     loaded_count size (contents_of lines)
     (All-map (LiesBelow size) content_of lines

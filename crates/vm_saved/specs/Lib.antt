@@ -4,3 +4,4 @@ pub mod Cuts
 pub mod Resumes
 pub mod Bits
 pub mod Saving
+pub mod Lawful

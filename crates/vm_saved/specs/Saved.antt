@@ -1,28 +1,15 @@
 -- The machine that was saved, and what is saved of a machine.
-use Rattle.std.specs.Prelude.{◌≡◌, ℕ, zero, suc, ◌*◌, ◌/◌, ◌%◌, true}
-use Rattle.std.specs.Prelude.{List, [], ◌∷◌, ◌++◌, length, map, take, drop, replicate, if◌then◌else◌, Option}
+use Rattle.std.specs.Prelude.{◌≡◌, ◌%◌, true, [], ◌∷◌, length, Option}
 use Rattle.std.specs.Int.{from_bool}
 use Rattle.mb_model.specs.Keeping.{list_of}
 use Rattle.vm_disk.specs.Disk.{DiskState}
 use Rattle.mb_devices.specs.Adopted.{devices_of}
 use Rattle.mb_devices.specs.Registers.{status_of}
-use Rattle.mb_saved.specs.declared.line.RamLine.{RamLine}
-use Rattle.mb_saved.specs.Saved.{Saved, is_off, is_stopped, is_zero}
-use Rattle.mb_walk.specs.Memory.{Contents, with_contents}
+use Rattle.mb_saved.specs.Lines.{lines_of, ram_by}
+use Rattle.mb_saved.specs.Saved.{Saved, is_off, is_stopped}
 use Rattle.def_machine.specs.Machine.{Machine, going, takes_steps}
 
 -- ---- the machine that was saved
-
--- a line as bytes from an address on
-abbrev pub content_of : RamLine → ℕ × List ℕ
-content_of line = (line.at, line.bytes)
-
-abbrev pub contents_of : List RamLine → Contents
-contents_of lines = map content_of lines
-
--- RAM of so many bytes that is zero but for these lines
-abbrev pub ram_by : ℕ → List RamLine → List ℕ
-ram_by size lines = with_contents (replicate size 0) (contents_of lines)
 
 -- The machine, with whatever disk is attached. It goes on by the rule of guests.
 abbrev pub machine_of : Option DiskState → Saved → Machine
@@ -39,18 +26,6 @@ machine_of disk s = record {
 }
 
 -- ---- what is saved of a machine
-
--- a line of 16 bytes with its address, or nothing where it is all zero
-abbrev pub line_at : ℕ → List ℕ → List RamLine
-line_at at row = if is_zero row then [] else (record { at = at; bytes = row }) ∷ []
-
--- of the first so many lines of memory those that are not all zero
-abbrev pub first_lines : List ℕ → ℕ → List RamLine
-first_lines ram zero = []
-first_lines ram (suc n) = first_lines ram n ++ line_at (16 * n) (take 16 (drop (16 * n) ram))
-
-abbrev pub lines_of : List ℕ → List RamLine
-lines_of ram = first_lines ram (length ram / 16)
 
 -- What a snapshot tells of a machine by the rule of guests, but for its disk. It has the processor but for whether STOP
 -- holds it, which the state says, and the devices but for the power switch, which the state says too.

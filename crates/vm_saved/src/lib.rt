@@ -2,8 +2,8 @@
 //!
 //! [`specs/Saved`] has what a snapshot tells of a machine and the machine that it is; [`specs/Begins`] the runs, counts
 //! and marks of a guest that begins with any machine; [`specs/Bits`] what bits registers have; [`specs/Saving`] which
-//! machines can be saved; [`specs/Cuts`] scripts without what has arrived already; [`specs/Resumes`] a run that is
-//! saved in its middle.
+//! machines can be saved; [`specs/Lawful`] that what is saved of them is lawful; [`specs/Cuts`] scripts without what has
+//! arrived already; [`specs/Resumes`] a run that is saved in its middle.
 #![tactic(auto)]
 
 ghost use Rattle.vm_saved.specs.Saved.{SavedIsGivenBack, GoingIsGivenBack};
@@ -13,6 +13,7 @@ ghost use Rattle.vm_saved.specs.Begins.{CountsAreStepsSince, MarksAreOfRetiredSi
 ghost use Rattle.vm_saved.specs.Begins.{BegunGuestsRunAlone};
 ghost use Rattle.vm_saved.specs.Bits.{RunsKeepBits, StartsHaveBits};
 ghost use Rattle.vm_saved.specs.Saving.{StartsCanBeSaved, SavedCanBeSaved, RunsKeepLists, RunsCanBeSaved};
+ghost use Rattle.vm_saved.specs.Lawful.{GuestsAreLawful, RunsAreGuests, SavedAreGuests, StartsAreGuests};
 ghost use Rattle.vm_saved.specs.Cuts.{LaterArrivalsStay, LaterAbortsStay, CutRunsAreWhole, CutTurnsAreWhole};
 ghost use Rattle.vm_saved.specs.Cuts.{CutsAreScripts, CutsJoin};
 ghost use Rattle.vm_saved.specs.Resumes.{ResumedRunsGoOn, StartedRunsGoOn, SavedRunsGoOn};
@@ -64,6 +65,14 @@ pub fn guests_can_be_saved()
     ensures saved { SavedCanBeSaved }
     ensures lists { RunsKeepLists }
     ensures runs { RunsCanBeSaved }
+{}
+
+/// What is saved of a guest's machine is lawful, wherever its run comes, where what it keeps can be kept.
+pub fn saved_guests_are_lawful()
+    ensures starts { StartsAreGuests }
+    ensures saved { SavedAreGuests }
+    ensures runs { RunsAreGuests }
+    ensures lawful { GuestsAreLawful }
 {}
 
 /// A script without what has arrived already is as the whole.

@@ -133,9 +133,11 @@ all_after rows zero from low (line ∷ lines) le l = absurd l
 all_after rows (suc most) from low (line ∷ lines) le l =
     let is : IsRow rows from line = l.1 in
     let after = is.after in
-    All-cons (λ (line : RamLine). 16 * low ≤ line.at) line lines (omega (arith, after)) (all_after rows most (line.at / 16 + 1) low lines (omega (arith, after)) l.2)
+    All-cons (λ (line : RamLine). 16 * low ≤ line.at) line lines (omega (arith, after))
+    (all_after rows most (line.at / 16 + 1) low lines (omega (arith, after)) l.2)
 
-all_rise : (rows most from : ℕ) (lines : List RamLine) → LawfulUntil (row_lines rows) most from lines → AllPairs (λ (first later : RamLine). first.at < later.at) lines
+all_rise : (rows most from : ℕ) (lines : List RamLine) → LawfulUntil (row_lines rows) most from lines
+    → AllPairs (λ (first later : RamLine). first.at < later.at) lines
 all_rise rows most from [] l = λ i j d before inside. absurd (omega arith)
 all_rise rows zero from (line ∷ lines) l = absurd l
 all_rise rows (suc most) from (line ∷ lines) l =
@@ -187,9 +189,11 @@ guest_lawful i g l =
       ram = (omega (arith, ram.0), omega (arith, ram.1), omega (arith, ram.2));
       bits = has_bits _ g.registers l.1.1.0;
       stopped = refl;
-      few = (in_parts kept_counts (length g.front.kept) front.1.0.0).1;
-      names = all_name (length g.front.kept) [] g.front.kept front.1.0.1;
-      apart = all_apart (length g.front.kept) [] g.front.kept front.1.0.1;
+      kept = record {
+        few = (in_parts kept_counts (length g.front.kept) front.1.0.0).1;
+        names = all_name (length g.front.kept) [] g.front.kept front.1.0.1;
+        apart = all_apart (length g.front.kept) [] g.front.kept front.1.0.1;
+      };
       lines = all_lines g.front.ram _ 0 g.lines lines;
       in_order = all_rise (64 * g.front.ram) _ 0 g.lines lines;
       console = (in_parts (from_to 0 65536) (length g.progress.console) progress.1.1.0.0).1;

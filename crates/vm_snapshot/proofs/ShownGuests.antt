@@ -197,11 +197,14 @@ lines_fit (entry ∷ entries) h =
 pub is_input : (steps : ℕ) (script : Entries) → HasEntries script → IsInput (lines_of (above steps script))
 is_input steps script h =
     let test = λ (entry : Entry). nat_lt steps entry.step in
-    let order = kept_in_steps test 0 script (in_steps 0 script (λ k d inside. omega arith) h.lawful.from_one (All-weaker IsEntry (λ (entry : Entry). entry.step < 2 ^ 32) (λ entry is. is.0) script h.entries) h.lawful.in_order) in
+    let longs = All-weaker IsEntry (λ (entry : Entry). entry.step < 2 ^ 32) (λ entry is. is.0) script h.entries in
+    let order = kept_in_steps test 0 script
+    (in_steps 0 script (λ k d inside. omega arith) h.lawful.from_one longs h.lawful.in_order) in
     let kept = length-filter test script in
     let most = count_by-le-length test script in
     let few = h.lawful.few in
-    let said : length (entries_of (lines_of (above steps script))) ≡ length (above steps script) = ap (λ (es : Entries). length es) (lines_say (above steps script)) in
+    let said : length (entries_of (lines_of (above steps script))) ≡ length (above steps script) =
+    ap (λ (es : Entries). length es) (lines_say (above steps script)) in
     record {
       runs = lines_are_runs (above steps script);
       order = lines_order 0 (above steps script) order;
@@ -459,7 +462,7 @@ front_lawful g t =
     let ram = t.lawful.ram in (
       in_from rams (kib_of g.seen) (let h = ram.0 in omega arith) (let h = ram.1 in omega arith) (let h = ram.2 in omega arith),
       (
-        kept_lawful g.kept t.lawful.few t.lawful.apart t.lawful.names,
+        kept_lawful g.kept t.lawful.kept.few t.lawful.kept.apart t.lawful.kept.names,
         (inputs_are_scripts (lines_of (above g.seen.steps g.script))).1 (is_input g.seen.steps g.script t.script),
       ),
     )

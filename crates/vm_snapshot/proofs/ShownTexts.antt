@@ -17,15 +17,15 @@ use Rattle.mb_walk.specs.Memory.{with_contents}
 use Rattle.mb_report.specs.Text.{count_line, outcome_text}
 use Rattle.vm_disk.specs.Disk.{DiskState, blocks_in, opened, zeros}
 use Rattle.vm_snapshot.specs.Fronts.{disk_of}
+use Rattle.mb_saved.specs.Lines as saving
+use Rattle.mb_saved.specs.Lines.{contents_of, first_lines}
 use Rattle.vm_snapshot.specs.Guests.{Disk, Guest, Snapshot, boards, guests, snapshot}
 use Rattle.vm_snapshot.specs.Inputs.{MOST}
 use Rattle.vm_snapshot.specs.Memories.{rows_of}
 use Rattle.vm_snapshot.specs.Outcomes.{IsOfSize}
 use Rattle.vm_snapshot.specs.Plans as plans
-use Rattle.vm_snapshot.specs.Plans.{IsAnswer, IsRead, Plan, contents_of, plan_of, plan_seen, state_of}
+use Rattle.vm_snapshot.specs.Plans.{IsAnswer, IsRead, Plan, plan_of, plan_seen, state_of}
 use Rattle.vm_snapshot.specs.Runs.{entries_of, lines_of}
-use Rattle.vm_snapshot.specs.Saving.{first_lines}
-use Rattle.vm_snapshot.specs.Saving as saving
 use Rattle.vm_snapshot.specs.Shown.{AnswersThat, CanBeTold, GuestsAreTold, HasBlocks, IsSnapshot, ShownGuest, TextsSayOnePlan, guests_text, plan_told, saved_in, snapshot_text, told}
 use Rattle.vm_snapshot.specs.Texts.{above, disk_lines, front_text, machine_text}
 use Rattle.vm_snapshot.specs.declared.plan.SnapFault.{SnapFault}
@@ -36,7 +36,8 @@ use Rattle.vm_snapshot.proofs.Fronts.{disks_are_written, fronts_are_written}
 use Rattle.vm_snapshot.proofs.Guests.{snapshot_spells}
 use Rattle.vm_snapshot.proofs.Outcomes.{glue, named_text, outcomes_are_written}
 use Rattle.vm_snapshot.proofs.Runs.{lines_say}
-use Rattle.vm_snapshot.proofs.SavedLines.{ram_back, rows_are_lines}
+use Rattle.mb_saved.proofs.Lines.{memory_is_given_back}
+use Rattle.vm_snapshot.proofs.SavedLines.{rows_are_lines}
 use Rattle.vm_snapshot.proofs.ShownGuests.{address_values_are, data_values_are, disk_lawful, front_lawful, front_of, guest_lawful, guest_of, in_from, kib_of, whole}
 
 -- ---- the text
@@ -75,7 +76,8 @@ chain_written i (g ∷ list) h =
     let t = All-head CanBeTold g list h in
     glue _ _ _ _ (guest_written i g t)
     (glue _ _ _ _ (disk_written i g.disk t.disk) (chain_written (i + 1) list (All-tail CanBeTold g list h)))
-    ∙ regroup (front_text (kib_of g.seen) g.kept (lines_of (above g.seen.steps g.script))) (outcome_text i g.seen) (disk_lines i g.disk) (guests_text (i + 1) list)
+    ∙ regroup (front_text (kib_of g.seen) g.kept (lines_of (above g.seen.steps g.script))) (outcome_text i g.seen)
+    (disk_lines i g.disk) (guests_text (i + 1) list)
 
 chain_lawful : (more i : ℕ) (list : List ShownGuest) → length list ≡ suc more → All CanBeTold list → LawfulChain guests more i (map pair_of list)
 chain_lawful more i [] e h = absurd (omega arith)
@@ -123,7 +125,7 @@ disk_is d h =
     let bytes : with_contents (replicate (512 * blocks_in d) 0) (contents_of (rows_of 0 rows d.bytes)) ≡ d.bytes =
     ap (λ (l : List RamLine). with_contents (replicate (512 * blocks_in d) 0) (contents_of l)) lines
     ∙ ap (λ (n : ℕ). with_contents (replicate n 0) (contents_of (saving.lines_of d.bytes))) (sym size)
-    ∙ ram_back d.bytes (omega arith) in
+    ∙ memory_is_given_back d.bytes (omega arith) in
     ap (λ (l : List ℕ). with_bytes d l (from_bool d.refused == 1)) bytes ∙ ap (with_bytes d d.bytes) (flag_back d.refused)
 
 disks_are : (o : Option DiskState) → IfSome o HasBlocks → option_map state_of (option_map disk_of o) ≡ o

@@ -14,5 +14,4 @@ pub mod Writing
 pub mod Views
 pub mod Plans
 pub mod Parts
-pub mod Saving
 pub mod Shown

@@ -2,10 +2,9 @@
 use Rattle.std.specs.Prelude.{◌≡◌, ℕ, ◌*◌, ◌==◌, Bool, List, map, slice_index, Option, option_map, Result, Ok, Err}
 use Rattle.mb_port.specs.declared.types.Mmu.{Mmu}
 use Rattle.mb_model.specs.declared.processor.Cpu.{Cpu}
-use Rattle.mb_saved.specs.declared.line.RamLine.{RamLine}
+use Rattle.mb_saved.specs.Lines.{contents_of}
 use Rattle.mb_saved.specs.Saved.{Saved, is_stopped}
 use Rattle.mb_spelling.specs.Places.{IsFirstFault}
-use Rattle.mb_walk.specs.Memory.{Contents}
 use Rattle.vm_disk.specs.Disk.{DiskState, opened}
 use Rattle.vm_snapshot.specs.Guests.{Disk, Guest, Registers, Snapshot, snapshot}
 use Rattle.vm_snapshot.specs.Runs.{entries_of}
@@ -64,13 +63,6 @@ saved_of g = record {
   count = g.devices.count;
   pending = g.devices.pending;
 }
-
--- a line as bytes from an address on
-abbrev pub content_of : RamLine → ℕ × List ℕ
-content_of line = (line.at, line.bytes)
-
-abbrev pub contents_of : List RamLine → Contents
-contents_of lines = map content_of lines
 
 -- The blocks are zero but for the lines.
 abbrev pub state_of : Disk → DiskState

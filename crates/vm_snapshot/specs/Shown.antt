@@ -14,7 +14,7 @@ use Rattle.vm_disk.specs.Disk.{DiskState, IsDisk}
 use Rattle.vm_snapshot.specs.Inputs.{MOST}
 use Rattle.vm_snapshot.specs.Outcomes.{registers_of}
 use Rattle.vm_snapshot.specs.Plans.{IsAnswer, IsRead, Plan, plan_seen}
-use Rattle.vm_snapshot.specs.Saving.{lines_of}
+use Rattle.mb_saved.specs.Lines.{lines_of}
 use Rattle.vm_snapshot.specs.Texts.{above, guest_text}
 use Rattle.vm_snapshot.specs.declared.plan.SnapFault.{SnapFault}
 use Rattle.vm_snapshot.specs.declared.plan.SnapFault.TheVariants.{Memory}

@@ -9,7 +9,8 @@ ghost use Rattle.mb_spelling.specs.Spelling.{behind, mapped};
 ghost use Rattle.mb_walk.specs.Memory.{with_contents};
 ghost use Rattle.vm_disk.specs.Disk.{opened, zeros as zeros_of};
 ghost use Rattle.vm_snapshot.specs.Guests.{bit, disk as disk_of, long as long_of};
-ghost use Rattle.vm_snapshot.specs.Plans.{contents_of, state_of};
+ghost use Rattle.mb_saved.specs.Lines.{contents_of};
+ghost use Rattle.vm_snapshot.specs.Plans.{state_of};
 ghost use Rattle.vm_snapshot.specs.Views.{ReadsOr, disk_seen};
 ghost use Rattle.vm_snapshot.specs.declared.refusal.Refusal.TheVariants as refusal;
 

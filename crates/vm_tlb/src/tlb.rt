@@ -1,6 +1,6 @@
 //! The translations that a guest keeps.
 
-ghost use Rattle.std.specs.Prelude.{◌≡◌, ◌≤◌, ◌==◌, [], length, slice_get, IfOk, IfSome};
+ghost use Rattle.std.specs.Prelude.{◌≡◌, ◌≤◌, ◌==◌, [], length, slice_get, All, IfOk, IfSome};
 ghost use Rattle.mb_model.specs.Keeping.{rule_k, NamesPages, Apart, entry_in as entry_of, filled_in, displaced};
 ghost use Rattle.mb_model.specs.Keeping.{flushed_in};
 
@@ -67,6 +67,7 @@ impl Tlb {
         ensures entry { result ≡ slice_get self.now place }
         ensures names { IfSome result NamesPages }
         ensures few { length self.now ≤ rule_k.capacity }
+        ensures all { All NamesPages self.now }
         ensures apart { Apart self.now }
     {
         self.nodes.entry(place)

@@ -2,7 +2,7 @@ use Rattle.std.proofs.Common.{◌≡◌, drop, length}
 use Rattle.mb_walk.specs.Memory.{with_contents}
 use Rattle.def_machine.specs.Machine.{with_ram}
 use Rattle.mb_board.specs.State.{machine_in, with_machine}
-use Rattle.vm_saved.specs.Saved.{contents_of}
+use Rattle.mb_saved.specs.Lines.{contents_of}
 use Rattle.vm_guest.specs.Memory.{contents_from}
 use Rattle.vm_guest.proofs.adopting.load_lines.Given as goal
 

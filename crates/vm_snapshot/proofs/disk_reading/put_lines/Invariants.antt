@@ -1,6 +1,6 @@
 use Rattle.std.proofs.Common.{◌≡◌, drop, length}
 use Rattle.mb_walk.specs.Memory.{with_contents}
-use Rattle.vm_snapshot.specs.Plans.{contents_of}
+use Rattle.mb_saved.specs.Lines.{contents_of}
 use Rattle.vm_snapshot.proofs.disk_reading.put_lines.Given as goal
 
 abbrev pub invariant-loop-line : goal.invariant-loop-line

@@ -8,7 +8,8 @@ use Rattle.mb_board.specs.State.{BoardState}
 use Rattle.vm_shadow.specs.Shadows.{nothing}
 use Rattle.def_guests.specs.Seats.{Seat, shadow_on, IsSeated}
 use Rattle.vm_saved.specs.Begins.{beginning}
-use Rattle.vm_saved.specs.Saved.{contents_of, machine_of}
+use Rattle.mb_saved.specs.Lines.{contents_of}
+use Rattle.vm_saved.specs.Saved.{machine_of}
 use Rattle.vm_guest.specs.Memory.{contents_from, OnlyBetween}
 use Rattle.vm_guest.specs.Counting.{tally_in}
 use Rattle.vm_guest.proofs.Adopted.{LinesLaid, lines_laid, lines_lie, adopted_seated, adopted_begins, empty_on}
