@@ -1,4 +1,3 @@
-pub mod ChunkLemmas
 pub mod TextLemmas
 pub mod GuestLemmas
 pub mod MachineLemmas

@@ -1,5 +1,5 @@
 -- Machines with their disks: when two show the same, and how they are found among those of all guests.
-use Rattle.std.proofs.Common.{◌≡◌, ◌∙◌, ℕ, List, [], ◌∷◌, zero, suc, map, refl, ap, sym, Option, Some, None}
+use Rattle.std.proofs.Common.{◌≡◌, ◌∙◌, ℕ, List, [], ◌∷◌, zero, suc, map, replicate, refl, ap, sym, Option, Some, None}
 use Rattle.std.specs.Bool.{Decides}
 use Rattle.std.specs.Prelude.{◌++◌, ◌&&◌, IfSome, slice_get}
 use Rattle.std.specs.Option.{option_map_or}
@@ -8,9 +8,10 @@ use Rattle.std.proofs.lemmas.Simd.{map-map}
 use Rattle.mb_report.proofs.SameLemmas.{seen_decides}
 use Rattle.mb_model.specs.Keeping.{rule_a}
 use Rattle.mb_model.specs.Seen.{Seen}
-use Rattle.mb_walk.specs.Memory.{Contents}
-use Rattle.mb_devices.specs.Devices.{DeviceState}
-use Rattle.def_machine.specs.Machine.{Entries, Machine, Opening, Outcome, diskless, outcome_of, reset_with, seen_machine, start}
+use Rattle.mb_walk.specs.Memory.{Contents, with_contents}
+use Rattle.mb_devices.specs.Devices.{DeviceState, idle, restarted}
+use Rattle.mb_board.specs.State.{BoardState, board_at_reset, machine_in, with_machine}
+use Rattle.def_machine.specs.Machine.{Entries, Machine, Opening, Outcome, diskless, outcome_of, reset_with, seen_machine, start, with_ram}
 use Rattle.vm_disk.specs.Disk.{DiskState}
 use Rattle.vm_disk.proofs.Equal.{same_decides}
 use Rattle.vm_guest.specs.Session.{GuestAtStart}
@@ -101,3 +102,18 @@ pub starts_with : (m k : Machine) (opening : Opening) (disk : Option DiskState) 
 unfolding reset_with
 starts_with m k opening disk size h is same =
     is ∙ ap (with_disk disk) h ∙ ap (λ d. start rule_a (let o : Opening = record { image = opening.image; disk = d } in o) size) same
+
+-- ---- a board with an image
+
+-- A new board on which an image is loaded is the start of the image's machine once it is reset.
+pub board_starts : (size : ℕ) (image contents : Contents) (made loaded after : BoardState) → contents ≡ image
+    → made ≡ board_at_reset (reset_with rule_a (idle size) (replicate size 0))
+    → loaded ≡ with_machine made (with_ram (machine_in made) (with_contents made.world.ram contents))
+    → after ≡ board_at_reset (reset_with rule_a (restarted loaded.world.devices) loaded.world.ram)
+    → machine_in after ≡ start rule_a (diskless image) size
+unfolding reset_with
+board_starts size image contents made loaded after same made_is loaded_is after_is =
+    ap machine_in after_is
+    ∙ ap (λ (b : BoardState). reset_with rule_a (restarted b.world.devices) b.world.ram) loaded_is
+    ∙ ap (λ (b : BoardState). reset_with rule_a (restarted b.world.devices) (with_contents b.world.ram contents)) made_is
+    ∙ ap (λ (c : Contents). start rule_a (diskless c) size) same

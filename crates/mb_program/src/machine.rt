@@ -1,13 +1,12 @@
 //! A machine from its start to its outcome.
 
-ghost use Rattle.std.specs.Prelude.{◌≡◌, ◌*◌, ◌<◌, ◌≤◌, ◌^◌, ◌++◌, [], length, option_map, IfOk, OnOk, All, None};
+ghost use Rattle.std.specs.Prelude.{◌≡◌, ◌*◌, ◌≤◌, ◌^◌, ◌++◌, [], length, option_map, IfOk, OnOk, All, None};
 ghost use Rattle.std.specs.Option.{option_map_or};
-ghost use Rattle.mb_srec.specs.Image.{content_of, all_contents, contents_of, LiesBelow};
-ghost use Rattle.mb_walk.specs.Memory.{overwritten, with_contents};
+ghost use Rattle.mb_srec.specs.Image.{contents_of, LiesBelow};
 ghost use Rattle.mb_model.specs.Keeping.{rule_a};
 ghost use Rattle.mb_board.specs.declared.bus.TheConstants.{MOST_BOARD_BYTES};
-ghost use Rattle.mb_board.specs.State.{machine_in, with_machine};
-ghost use Rattle.def_machine.specs.Machine.{diskless, start, with_ram};
+ghost use Rattle.mb_board.specs.State.{machine_in};
+ghost use Rattle.def_machine.specs.Machine.{diskless, start};
 ghost use Rattle.mb_model.specs.Seen.{seen_of};
 ghost use Rattle.mb_outside.specs.Prints.{Prints};
 ghost use Rattle.mb_report.specs.Text.{outcome_text};
@@ -25,36 +24,11 @@ use mb_board::Board;
 use mb_model::Outcome;
 use mb_outside::{Memory, Sink, SinkFault};
 use mb_report::write_outcome;
-use mb_srec::{Chunk, Image};
+use mb_srec::Image;
 use mb_words::Bare;
 use std::alloc::Global;
 use vm_disk::{Disk, write_disk};
 use vm_guest::SessionDisk;
-
-/// Writes a chunk that lies in RAM.
-#[tactic(auto, using(mb_walk::proofs::MemoryLemmas::writes))]
-fn write_chunk(board: &mut Board, chunk: &Chunk)
-    requires lies { LiesBelow (length board.old.world.ram) (content_of chunk.now) }
-    ensures after { board.new ≡ with_machine board.old (with_ram (machine_in board.old)
-        (overwritten board.old.world.ram (content_of chunk.now).0 (content_of chunk.now).1)) }
-    ensures size { length board.new.world.ram ≡ length board.old.world.ram }
-{
-    if !chunk.bytes().is_empty() {
-        board.write_phys(chunk.at(), chunk.bytes());
-    }
-}
-
-/// Writes chunks that lie in RAM, later ones over earlier ones.
-fn write_chunks(board: &mut Board, chunks: &[Chunk])
-    requires lie { All (LiesBelow (length board.old.world.ram)) (all_contents chunks.now) }
-    ensures size { length board.new.world.ram ≡ length board.old.world.ram }
-    ensures after { board.new ≡ with_machine board.old
-        (with_ram (machine_in board.old) (with_contents board.old.world.ram (all_contents chunks.now))) }
-{
-    for chunk in chunks {
-        write_chunk(board, chunk);
-    }
-}
 
 /// A board with an image in its RAM, after reset.
 #[tactic(auto, unfolding(def_machine::specs::Machine::reset_with))]
@@ -66,7 +40,7 @@ pub(crate) fn start_board(alloc: Global, image: &Image, size: u32) -> Result<Boa
     ensures unrun { IfOk result (λ board. board.steps ≡ 0) }
 {
     let mut board = Board::new(alloc, size)?;
-    write_chunks(&mut board, image.chunks());
+    board.load(0, image.chunks());
     board.reset();
     Ok(board)
 }

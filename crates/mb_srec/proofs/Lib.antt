@@ -3,3 +3,4 @@ pub mod Inside
 pub mod Fields
 pub mod Pieces
 pub mod ReadBack
+pub mod ChunkLemmas

@@ -9,6 +9,7 @@
 mod fault;
 mod image;
 mod kind;
+mod loading;
 mod reading;
 mod record;
 mod writing;

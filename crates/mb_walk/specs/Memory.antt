@@ -1,5 +1,5 @@
 -- Memory as a list of bytes, and big-endian numbers in it.
-use Rattle.std.specs.Prelude.{ℕ, ◌+◌, ◌^◌, ◌<◌, List, [], ◌∷◌, ◌++◌, length, take, drop}
+use Rattle.std.specs.Prelude.{ℕ, ◌+◌, ◌^◌, ◌<◌, List, [], ◌∷◌, ◌++◌, length, map, take, drop}
 use Rattle.std.specs.List.{All}
 use Rattle.byteorder.specs.Endian.{big_number, big_bytes}
 
@@ -23,6 +23,13 @@ Contents = List (ℕ × List ℕ)
 abbrev pub with_contents : List ℕ → Contents → List ℕ
 with_contents ram [] = ram
 with_contents ram ((at, bytes) ∷ chunks) = with_contents (overwritten ram at bytes) chunks
+
+-- the same with their addresses counted from a place on
+abbrev pub chunk_from : ℕ → ℕ × List ℕ → ℕ × List ℕ
+chunk_from base (at, bytes) = (base + at, bytes)
+
+abbrev pub contents_from : ℕ → Contents → Contents
+contents_from base contents = map (chunk_from base) contents
 
 -- each element is a byte
 abbrev pub AreBytes : List ℕ → Type 0

@@ -7,7 +7,7 @@ ghost use Rattle.mb_walk.specs.Memory.{number_at};
 ghost use Rattle.vm_disk.specs.Disk.{advanced, blocks_in, commanded, with_next_long, loaded, opened, refusing, rested, stored, IsDisk};
 ghost use Rattle.vm_disk.specs.Registers.{read_of, write_of};
 
-use crate::bytes::{clear, part_at, put_chunks, zeros};
+use crate::bytes::{clear, part_at, zeros};
 use crate::register::DiskRegister;
 use mb_outside::Memory;
 use mb_srec::Image;
@@ -51,7 +51,7 @@ impl Disk {
         ensures { IfOk result (λ disk. disk ≡ opened blocks (contents_of contents.now)) }
     {
         let mut bytes = zeros(alloc, BLOCK_BYTES * blocks as usize)?;
-        put_chunks(&mut bytes, contents.chunks());
+        contents.put_into(&mut bytes);
         let buffer = zeros(alloc, BLOCK_BYTES)?;
         Ok(Disk {
             bytes,

@@ -22,7 +22,7 @@ use Rattle.mb_devices.specs.Adopted.{devices_of}
 use Rattle.mb_saved.specs.Lines.{content_of, contents_of, ram_by}
 use Rattle.vm_saved.specs.Saved.{machine_of}
 use Rattle.mb_port.specs.declared.types.Mmu.{Mmu}
-use Rattle.mb_walk.specs.Memory.{Contents, overwritten, part, with_contents}
+use Rattle.mb_walk.specs.Memory.{Contents, overwritten, part, with_contents, chunk_from, contents_from}
 use Rattle.vm_shadow.specs.Area.{Maps}
 use Rattle.vm_shadow.specs.Mapped.{shadowed}
 use Rattle.vm_shadow.specs.Shadows.{AreNeeded, EntryMap, Shadowed, nothing}
@@ -38,7 +38,7 @@ use Rattle.def_guests.specs.Turns.{Tally, Turned, no_steps}
 use Rattle.def_guests.specs.Seats.{Seat, on_board, own, shadow_on, turned_on, IsSeated}
 use Rattle.vm_saved.specs.Begins.{beginning}
 use Rattle.law_held.proofs.Flushes.{nothing_truthful}
-use Rattle.vm_guest.specs.Memory.{OnlyBetween, chunk_from, contents_from}
+use Rattle.vm_guest.specs.Memory.{OnlyBetween}
 use Rattle.vm_guest.proofs.Loads.{length-zeros, loads_all, only_both, only_over, part_zeros, zeros}
 use Rattle.vm_guest.proofs.Prepared.{cleared_count}
 

@@ -1,14 +1,13 @@
 -- Zeros and an image in a part of memory.
-use Rattle.std.proofs.Common.{◌≡◌, ◌∙◌, ℕ, ◌+◌, ◌-◌, ◌<◌, ◌≤◌, List, [], ◌∷◌, ◌++◌, length, take, replicate, get_or, refl, ap, sym, subst, arith}
+use Rattle.std.proofs.Common.{◌≡◌, ◌∙◌, ℕ, ◌+◌, ◌-◌, ◌<◌, ◌≤◌, List, [], ◌∷◌, ◌++◌, length, take, replicate, refl, ap, sym, subst, arith}
 use Rattle.std.specs.Prelude.{All}
-use Rattle.std.proofs.lemmas.List.{length-replicate, take-replicate, drop-replicate, get_or-map, length-map, append-nil, drop_all}
+use Rattle.std.proofs.lemmas.List.{length-replicate, take-replicate, drop-replicate, append-nil, drop_all}
 use Rattle.std.proofs.lemmas.List.Elements.{All-head, All-tail, All-map}
-use Rattle.mb_srec.specs.declared.image.Chunk.{Chunk}
-use Rattle.mb_srec.specs.Image.{content_of, all_contents, LiesBelow}
-use Rattle.mb_walk.specs.Memory.{Contents, overwritten, part, with_contents}
+use Rattle.mb_srec.specs.Image.{LiesBelow}
+use Rattle.mb_walk.specs.Memory.{Contents, overwritten, part, with_contents, chunk_from, contents_from}
 use Rattle.mb_walk.proofs.MemoryLemmas.{length-overwritten, overwritten-nothing}
 use Rattle.mb_walk.proofs.Parts.{length-part, part-over, drop-over, take-over, over-split}
-use Rattle.vm_guest.specs.Memory.{OnlyBetween, chunk_from, contents_from}
+use Rattle.vm_guest.specs.Memory.{OnlyBetween}
 
 -- ---- zeros
 
@@ -100,16 +99,3 @@ pub lie_inside : (ram base size : ℕ) (contents : Contents) → base + size ≤
     → All (LiesBelow ram) (contents_from base contents)
 lie_inside ram base size contents room lie =
     All-map (LiesBelow ram) (chunk_from base) contents (λ k d within some. let inside = lie k d within some in omega (arith, inside))
-
--- a chunk at a place lies in memory, since all do
-pub chunk_lies : (base size : ℕ) (chunks : List Chunk) (i : ℕ) (chunk : Chunk)
-    → All (LiesBelow size) (contents_from base (all_contents chunks)) → i < length chunks → chunk ≡ get_or chunks i chunk
-    → LiesBelow size (chunk_from base (content_of chunk))
-chunk_lies base size chunks i chunk lie within is =
-    let content = content_of chunk in
-    let here : LiesBelow size (get_or (contents_from base (all_contents chunks)) i (chunk_from base content)) =
-    lie i (chunk_from base content) (rw (length-map, length-map) within) in
-    let same : get_or (contents_from base (all_contents chunks)) i (chunk_from base content) ≡ chunk_from base content =
-    get_or-map (chunk_from base) (all_contents chunks) i content (chunk_from base content) (rw length-map within)
-    ∙ ap (chunk_from base) (get_or-map content_of chunks i chunk content within ∙ ap content_of (sym is)) in
-    subst (λ (c : ℕ × List ℕ). LiesBelow size c) same here

@@ -7,7 +7,7 @@ use Rattle.mb_model.specs.declared.processor.Cpu.{Cpu}
 use Rattle.mb_model.specs.declared.outcome.RunState.TheVariants.{Running}
 use Rattle.mb_model.specs.Reset.{at_reset, mmu_at_reset}
 use Rattle.mb_srec.specs.Image.{LiesBelow}
-use Rattle.mb_walk.specs.Memory.{Contents, number_at, overwritten, part, with_contents}
+use Rattle.mb_walk.specs.Memory.{Contents, number_at, overwritten, part, with_contents, contents_from}
 use Rattle.mb_walk.proofs.MemoryLemmas.{length-overwritten}
 use Rattle.mb_walk.proofs.Parts.{number-part}
 use Rattle.mb_devices.specs.Devices.{DeviceState, idle}
@@ -24,7 +24,7 @@ use Rattle.def_guests.specs.declared.limits.TheConstants.{MONITOR_BYTES}
 use Rattle.vm_port.proofs.Frames.{around}
 use Rattle.vm_port.proofs.Owns.{own_nothing, placed_nothing}
 use Rattle.law_held.proofs.Flushes.{nothing_truthful}
-use Rattle.vm_guest.specs.Memory.{OnlyBetween, contents_from}
+use Rattle.vm_guest.specs.Memory.{OnlyBetween}
 use Rattle.vm_guest.proofs.Loads.{loads_all, only_over, only_both, part_zeros, length-zeros, zeros}
 
 -- the RAM of a guest, and all around it and its area, once zeros, its image and its empty tables are written

@@ -2,7 +2,7 @@
 
 ghost use Rattle.std.specs.Prelude.{◌≡◌, ◌+◌, ◌^◌, ◌<◌, ◌≤◌, [], length, slice_get, All};
 ghost use Rattle.mb_srec.specs.Image.{LiesBelow};
-ghost use Rattle.mb_walk.specs.Memory.{overwritten, with_contents};
+ghost use Rattle.mb_walk.specs.Memory.{overwritten, with_contents, chunk_from, contents_from};
 ghost use Rattle.def_machine.specs.Machine.{with_ram};
 ghost use Rattle.mb_board.specs.Beside.{but_ram};
 ghost use Rattle.mb_board.specs.State.{machine_in, with_machine};
@@ -11,7 +11,7 @@ ghost use Rattle.mb_saved.specs.Saved.{CanBeKept, IsLawful};
 ghost use Rattle.def_guests.specs.Seats.{turned_on, IsSame, IsSeated};
 ghost use Rattle.vm_saved.specs.Saved.{machine_of};
 ghost use Rattle.vm_saved.specs.Begins.{beginning};
-ghost use Rattle.vm_guest.specs.Memory.{chunk_from, contents_from, OnlyBetween};
+ghost use Rattle.vm_guest.specs.Memory.{OnlyBetween};
 
 use crate::counts::Counts;
 use crate::guest::Guest;

@@ -13,7 +13,7 @@ ghost use Rattle.vm_guest.specs.Memory.{OnlyBetween};
 ghost use Rattle.vm_guest.specs.Counting.{tally_in};
 
 use crate::counts::Counts;
-use crate::loading::{clear, load};
+use crate::loading::clear;
 use def_machine::MMU_AT_RESET;
 use mb_board::{Board, place_behind};
 use mb_devices::Devices;
@@ -112,7 +112,7 @@ impl Guest {
         let tlb = Tlb::new(alloc)?;
         let mut shadow = Shadow::new(alloc, base + ram)?;
         clear(board, base, ram);
-        load(board, base, image.chunks());
+        board.load(base, image.chunks());
         shadow.clear(board);
         let next = place_behind(&script, 0);
         Ok(Guest {

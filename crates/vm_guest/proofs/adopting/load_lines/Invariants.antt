@@ -1,9 +1,8 @@
 use Rattle.std.proofs.Common.{◌≡◌, drop, length}
-use Rattle.mb_walk.specs.Memory.{with_contents}
+use Rattle.mb_walk.specs.Memory.{with_contents, contents_from}
 use Rattle.def_machine.specs.Machine.{with_ram}
 use Rattle.mb_board.specs.State.{machine_in, with_machine}
 use Rattle.mb_saved.specs.Lines.{contents_of}
-use Rattle.vm_guest.specs.Memory.{contents_from}
 use Rattle.vm_guest.proofs.adopting.load_lines.Given as goal
 
 abbrev pub invariant-loop-line : goal.invariant-loop-line

@@ -3,14 +3,14 @@ use Rattle.std.specs.Prelude.{All}
 use Rattle.mb_srec.specs.Image.{LiesBelow}
 use Rattle.mb_saved.specs.declared.line.RamLine.{RamLine}
 use Rattle.mb_saved.specs.Saved.{IsLine}
-use Rattle.mb_walk.specs.Memory.{overwritten, with_contents}
+use Rattle.mb_walk.specs.Memory.{overwritten, with_contents, contents_from}
 use Rattle.mb_board.specs.State.{BoardState}
 use Rattle.vm_shadow.specs.Shadows.{nothing}
 use Rattle.def_guests.specs.Seats.{Seat, shadow_on, IsSeated}
 use Rattle.vm_saved.specs.Begins.{beginning}
 use Rattle.mb_saved.specs.Lines.{contents_of}
 use Rattle.vm_saved.specs.Saved.{machine_of}
-use Rattle.vm_guest.specs.Memory.{contents_from, OnlyBetween}
+use Rattle.vm_guest.specs.Memory.{OnlyBetween}
 use Rattle.vm_guest.specs.Counting.{tally_in}
 use Rattle.vm_guest.proofs.Adopted.{LinesLaid, lines_laid, lines_lie, adopted_seated, adopted_begins, empty_on}
 use Rattle.vm_guest.proofs.Loads.{zeros, lie_inside}

@@ -1,25 +1,26 @@
 use Rattle.std.proofs.Common.{◌≡◌, ◌∙◌, ℕ, List, length, ap, sym, subst, arith}
 use Rattle.std.specs.Prelude.{All}
 use Rattle.mb_srec.specs.Image.{contents_of, LiesBelow}
-use Rattle.mb_walk.specs.Memory.{Contents, number_at, overwritten, with_contents}
+use Rattle.mb_walk.specs.Memory.{Contents, number_at, overwritten, with_contents, contents_from}
 use Rattle.mb_model.specs.Reset.{at_reset}
 use Rattle.mb_board.specs.State.{BoardState}
-use Rattle.vm_guest.specs.Memory.{contents_from}
 use Rattle.vm_guest.specs.Counting.{tally_in}
 use Rattle.vm_guest.proofs.Loads.{zeros, lie_inside}
 use Rattle.vm_guest.proofs.Prepared.{Laid, laid, cleared_count, starts, seated}
 use Rattle.vm_guest.proofs.guest.Guest.prepare.Goals as goal
 
-pub load-requires-clause-lie : goal.load-requires-clause-lie
-load-requires-clause-lie c =
+pub load-requires : goal.load-requires
+load-requires c =
     let ram = c.args.board.now.world.ram in
     let inside = c.requires.inside in
     let cleared : c.clear.new.board.world.ram ≡ overwritten ram c.args.base (zeros c.args.ram) =
     ap (λ (b : BoardState). b.world.ram) c.clear.ensures.after in
     let count : length c.clear.new.board.world.ram ≡ length ram =
     ap (λ (m : List ℕ). length m) cleared ∙ cleared_count ram c.args.base c.args.ram (omega (arith, inside)) in
-    lie_inside (length c.clear.new.board.world.ram) c.args.base c.args.ram _ (omega (arith, inside, count))
-    (subst (λ (x : Contents). All (LiesBelow c.args.ram) x) (sym c.chunks.ensures) c.requires.image)
+    record {
+      lie = lie_inside (length c.clear.new.board.world.ram) c.args.base c.args.ram _ (omega (arith, inside, count))
+          (subst (λ (x : Contents). All (LiesBelow c.args.ram) x) (sym c.chunks.ensures) c.requires.image);
+    }
 
 is_laid : (c : goal.After-drop-image-2)
     → Laid c.args.base c.args.ram (contents_of c.args.image) c.args.board.now.world.ram c.clear-2.new.ram.world.ram
@@ -31,7 +32,7 @@ is_laid c =
     let loaded = ap (λ (b : BoardState). b.world.ram) c.load.ensures.after
     ∙ ap (λ (x : Contents). with_contents c.clear.new.board.world.ram (contents_from c.args.base x)) c.chunks.ensures
     ∙ ap (λ (m : List ℕ). with_contents m (contents_from c.args.base contents)) cleared in
-    laid c.args.base c.args.ram c.in_ok-shadow.shadow.area contents ram c.load.new.board.world.ram c.clear-2.new.ram.world.ram
+    laid c.args.base c.args.ram c.in_ok-shadow.shadow.area contents ram c.load.new.self.world.ram c.clear-2.new.ram.world.ram
     c.requires.inside c.requires.image c.in_ok-shadow.ensures.0 loaded c.clear-2.ensures.outside.size
     c.clear-2.ensures.outside.below c.clear-2.ensures.outside.above
 

@@ -2,10 +2,10 @@
 use Rattle.std.proofs.Common.{◌≡◌, drop, length}
 use Rattle.mb_srec.specs.Image.{all_contents}
 use Rattle.mb_walk.specs.Memory.{with_contents}
-use Rattle.mb_program.proofs.opening.put_chunks.Given as goal
+use Rattle.mb_srec.proofs.loading.put_chunks.Given as goal
 
 abbrev pub invariant-loop-chunk : goal.invariant-loop-chunk
 invariant-loop-chunk l = record {
-  puts : with_contents l.ram (all_contents (drop l.chunk-index l.chunks)) ≡ with_contents l.initial.ram (all_contents l.chunks);
-  size : length l.ram ≡ length l.initial.ram;
+  puts : with_contents l.bytes (all_contents (drop l.chunk-index l.chunks)) ≡ with_contents l.initial.bytes (all_contents l.chunks);
+  size : length l.bytes ≡ length l.initial.bytes;
 }
