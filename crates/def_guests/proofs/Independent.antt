@@ -17,10 +17,10 @@ other_alone i n s u all t j less ne =
     alone (s.guests i) (s.guests j) s.ram u.ram t.turn.within (all.apart i j t.number less (λ e. ne (sym e))) (all.seated i t.number).behind (all.seated j less)
 
 other_turned : (i n : ℕ) (s u : Stage) → AllSeated s → TakesTurn i n s u → (j : ℕ) → j < s.count → j ≢ i
-    → turned_on (u.guests j) u.ram [] ≡ turned_on (s.guests j) s.ram []
+    → turned_on (u.guests j) u.ram [] 0 ≡ turned_on (s.guests j) s.ram [] 0
 other_turned i n s u all t j less ne =
     let a = other_alone i n s u all t j less ne in
-    ap (λ (g : Seat). turned_on g u.ram []) (t.others j ne) ∙ turned_alone (s.guests j) s.ram u.ram [] a.machine a.tables
+    ap (λ (g : Seat). turned_on g u.ram [] 0) (t.others j ne) ∙ turned_alone (s.guests j) s.ram u.ram [] 0 a.machine a.tables
 
 pub record SameSpan (g h : Seat) : Type 0 where
   pub base : h.base ≡ g.base
@@ -63,17 +63,20 @@ no_steps j i n more ne = grind (arith, nat_tests)
 
 reached_on : (i n : ℕ) (s u t : Stage) → AllSeated s → TakesTurn i n s u → (j more : ℕ) → j < s.count → HasTaken j more u t
     → HasTaken j ((cond (i == j) n 0) + more) s t
-reached_on i n s u t all turn j more less (marks, e) = elim (cases_eq j i) [
+reached_on i n s u t all turn j more less (marks, left_times, e) = elim (cases_eq j i) [
   | inl is ↦ subst (λ (k : ℕ). HasTaken j k s t) (own_steps j i n more (sym is)) (
       subst (λ (k : ℕ). HasTaken k (n + more) s t) (sym is) (
         turn.turn.marks ++ marks,
-        turned_add (s.guests i).script n more (s.guests i) (u.guests i) (t.guests i) s.ram u.ram t.ram turn.turn.marks marks turn.turn.turned
-            (subst (λ (k : ℕ). turned_on (t.guests k) t.ram marks ≡ turn_of (u.guests k).script more (turned_on (u.guests k) u.ram [])) is e
-            ∙ ap (λ (script : Entries). turn_of script more (turned_on (u.guests i) u.ram [])) turn.turn.same.script),
+        turn.turn.left_times + left_times,
+        turned_add (s.guests i).script n more (s.guests i) (u.guests i) (t.guests i) s.ram u.ram t.ram turn.turn.marks marks
+            turn.turn.left_times left_times turn.turn.turned
+            (subst (λ (k : ℕ). turned_on (t.guests k) t.ram marks left_times ≡ turn_of (u.guests k).script more (turned_on (u.guests k) u.ram [] 0)) is e
+            ∙ ap (λ (script : Entries). turn_of script more (turned_on (u.guests i) u.ram [] 0)) turn.turn.same.script),
       ))
   | inr ne ↦ subst (λ (k : ℕ). HasTaken j k s t) (no_steps j i n more (λ x. ne (sym x))) (
     marks,
-    e ∙ ap (λ (script : Entries). turn_of script more (turned_on (u.guests j) u.ram [])) (same_span i n s u turn j).script
+    left_times,
+    e ∙ ap (λ (script : Entries). turn_of script more (turned_on (u.guests j) u.ram [] 0)) (same_span i n s u turn j).script
         ∙ ap (turn_of (s.guests j).script more) (other_turned i n s u all turn j less ne),
   )
 ]
@@ -81,7 +84,7 @@ reached_on i n s u t all turn j more less (marks, e) = elim (cases_eq j i) [
 pub turns_are_independent : TurnsAreIndependent
 turns_are_independent [] s t all same j less = subst (λ (r : Stage). AllSeated r × HasTaken j 0 s r) same (
   all,
-  ([], sym (nothing_turned (s.guests j).script (turned_on (s.guests j) s.ram []))),
+  ([], 0, sym (nothing_turned (s.guests j).script (turned_on (s.guests j) s.ram [] 0))),
 )
 turns_are_independent (turn ∷ turns) s t all (u, taken, rest) j less =
     let later = turns_are_independent turns u t (all_seated turn.0 turn.1 s u all taken) rest j (let c = taken.count in omega arith) in
@@ -92,7 +95,7 @@ prepared_guests_run_alone turns s t all taken j less opening size is =
     let n = steps_for j turns in
     let script = (s.guests j).script in
     let own = (turns_are_independent turns s t all taken j less).1 in
-    let whole = own.1 ∙ ap (turn_of script n) is in record {
+    let whole = own.2 ∙ ap (turn_of script n) is in record {
       machine = ap (λ (u : Turned). u.guest.machine) whole ∙ guests_run_alone opening script size n;
       tally = ap (λ (u : Turned). u.tally) whole;
     }

@@ -1,16 +1,14 @@
 -- Rounds end, and give each guest its whole bound.
 use Rattle.std.proofs.Common.{◌≡◌, ◌∙◌, ℕ, zero, suc, ◌+◌, ◌-◌, ◌≤◌, ◌<◌, min, List, [], ◌∷◌, refl, ap, sym, subst, Bool, true, false, inl, inr, arith}
 use Rattle.std.specs.Prelude.{nat_le, ◌&&◌}
-use Rattle.std.proofs.lemmas.List.{append-nil}
 use Rattle.std.proofs.lemmas.Bool.{cases_Bool, cases_lt}
 use Rattle.std.proofs.lemmas.Bool.Decides.{nat_tests}
-use Rattle.mb_instr.specs.declared.registers.Plain.{Plain}
 use Rattle.def_machine.specs.Machine.{Entries, takes_steps}
-use Rattle.def_guests.specs.Turns.{Turned, without_marks, advanced, turn_of}
+use Rattle.def_guests.specs.Turns.{Turned, afresh, advanced, turn_of}
 use Rattle.def_guests.specs.Rounds.{Member, left, is_done, opened, closed_by, turn_in, Hosted, members_after, round, all_done, left_of_all}
 use Rattle.def_guests.specs.Rounds.{rounds, whole_turn, WholeTurns}
 use Rattle.def_guests.specs.Laws.{RoundsEnd}
-use Rattle.def_guests.proofs.TurnLaws.{halted_turn, going_turn, nothing_turned, turns_add, turn_front}
+use Rattle.def_guests.proofs.TurnLaws.{halted_turn, going_turn, nothing_turned, turns_add, afresh_before, marks_stay_before}
 
 -- ---- the steps of a turn
 
@@ -145,11 +143,11 @@ AllAlong [] [] = Unit {0}
 AllAlong (m ∷ ms) (k ∷ ks) = Along m k × AllAlong ms ks
 AllAlong _ _ = ⊥
 
--- marks before a turn have no part in it
-unmarked_turn : (script : Entries) (n : ℕ) (t : Turned) (m : Member) → closed_by (turn_of script n (without_marks t)) m ≡ closed_by (turn_of script n t) m
+-- marks and exceptions before a turn have no part in it
+unmarked_turn : (script : Entries) (n : ℕ) (t : Turned) (m : Member) → closed_by (turn_of script n (afresh t)) m ≡ closed_by (turn_of script n t) m
 unmarked_turn script n t m =
-    ap (λ (x : Turned). closed_by x m) (sym (turn_front script n t.marks (without_marks t)))
-    ∙ ap (λ (marks : List Plain). closed_by (turn_of script n (record t { marks = marks })) m) (append-nil t.marks)
+    ap (λ (x : Turned). closed_by x m) (sym (marks_stay_before script n t.marks t.exceptions (afresh t)))
+    ∙ ap (λ (x : Turned). closed_by (turn_of script n x) m) (afresh_before t)
 
 turn_more : (m : Member) (n k : ℕ) → closed_by (turn_of m.script k (opened (after_turn m n))) (after_turn m n) ≡ after_turn m (n + k)
 turn_more m n k =

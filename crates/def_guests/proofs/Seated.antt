@@ -14,8 +14,8 @@ use Rattle.def_guests.specs.Turns.{Turned, bus_side, turn_of}
 use Rattle.def_guests.specs.Seats.{on_board, own, Seat, end_of, machine_on, turned_on, IsSeated, OnlyWithin}
 use Rattle.def_guests.specs.declared.limits.TheConstants.{MONITOR_BYTES}
 use Rattle.def_guests.specs.Stages.{LieApart}
-use Rattle.def_guests.specs.Laws.{NothingIsTaken, TakesAdd}
-use Rattle.def_guests.proofs.TurnLaws.{nothing_turned, turns_add, turn_front, with_front}
+use Rattle.def_guests.specs.Laws.{NothingIsTaken, TakesAdd, with_before}
+use Rattle.def_guests.proofs.TurnLaws.{nothing_turned, turns_add, marks_stay_before}
 use Rattle.def_guests.proofs.Trails.{trail_append}
 
 -- ---- parts of memory
@@ -55,18 +55,20 @@ pub record Alone (h : Seat) (x y : List ℕ) : Type 0 where
   pub tables : shadowed h.slots y ≡ shadowed h.slots x
   pub seated : IsSeated h y
 
-pub turned_alone : (h : Seat) (x y : List ℕ) (marks : List Plain) → machine_on h y ≡ machine_on h x → shadowed h.slots y ≡ shadowed h.slots x
-    → turned_on h y marks ≡ turned_on h x marks
-turned_alone h x y marks m t =
+pub turned_alone : (h : Seat) (x y : List ℕ) (marks : List Plain) (e : ℕ) → machine_on h y ≡ machine_on h x → shadowed h.slots y ≡ shadowed h.slots x
+    → turned_on h y marks e ≡ turned_on h x marks e
+turned_alone h x y marks e m t =
     ap (λ (n : Machine). record {
       guest = record { machine = n; shadow = own h.base (shadowed h.slots y) };
       tally = h.tally;
       marks = marks;
+      exceptions = e;
     }) m
     ∙ ap (λ (z : Shadowed). record {
       guest = record { machine = machine_on h x; shadow = own h.base z };
       tally = h.tally;
       marks = marks;
+      exceptions = e;
     }) t
 
 pub alone : (g h : Seat) (x y : List ℕ) → OnlyWithin g x y → LieApart g h → MONITOR_BYTES ≤ g.base → IsSeated h x → Alone h x y
@@ -91,19 +93,20 @@ alone g h x y w apart behind s =
         area = s.area;
         maps = maps.0;
         tables = maps.1 ∙ s.tables ∙ ap (λ (z : Shadowed). on_board h.base (own h.base z)) (sym maps.1);
-        truthful = subst (λ (t : Turned). Truthful h.size (bus_side t.guest)) (sym (turned_alone h x y [] machine maps.1)) s.truthful;
+        truthful = subst (λ (t : Turned). Truthful h.size (bus_side t.guest)) (sym (turned_alone h x y [] 0 machine maps.1)) s.truthful;
       };
     }
 
 -- ---- a turn of n and then one of m is a turn of n + m
 
-pub turned_add : (script : Entries) (n m : ℕ) (s t u : Seat) (x y z : List ℕ) (first second : List Plain)
-    → turned_on t y first ≡ turn_of script n (turned_on s x []) → turned_on u z second ≡ turn_of script m (turned_on t y [])
-    → turned_on u z (first ++ second) ≡ turn_of script (n + m) (turned_on s x [])
-turned_add script n m s t u x y z first second e f =
-    ap (with_front first) f ∙ sym (turn_front script m first (turned_on t y []))
-    ∙ ap (λ (marks : List Plain). turn_of script m (turned_on t y marks)) (append-nil first)
-    ∙ ap (turn_of script m) e ∙ sym (turns_add script n m (turned_on s x []))
+pub turned_add : (script : Entries) (n m : ℕ) (s t u : Seat) (x y z : List ℕ) (first second : List Plain) (p q : ℕ)
+    → turned_on t y first p ≡ turn_of script n (turned_on s x [] 0) → turned_on u z second q ≡ turn_of script m (turned_on t y [] 0)
+    → turned_on u z (first ++ second) (p + q) ≡ turn_of script (n + m) (turned_on s x [] 0)
+turned_add script n m s t u x y z first second p q e f =
+    ap (with_before first p) f ∙ sym (marks_stay_before script m first p (turned_on t y [] 0))
+    ∙ ap (λ (marks : List Plain). turn_of script m (turned_on t y marks (p + 0))) (append-nil first)
+    ∙ ap (λ (e : ℕ). turn_of script m (turned_on t y first e)) (let z : p + 0 ≡ p = omega arith in z)
+    ∙ ap (turn_of script m) e ∙ sym (turns_add script n m (turned_on s x [] 0))
 
 pub takes_add : TakesAdd
 takes_add n m s t u a b =
@@ -111,8 +114,9 @@ takes_add n m s t u a b =
     let size = a.same.size in
     let end : end_of t.guest ≡ end_of s.guest = omega arith in record {
       marks = a.marks ++ b.marks;
-      turned = turned_add s.guest.script n m s.guest t.guest u.guest s.ram t.ram u.ram a.marks b.marks a.turned
-          (b.turned ∙ ap (λ (script : Entries). turn_of script m (turned_on t.guest t.ram [])) a.same.script);
+      left_times = a.left_times + b.left_times;
+      turned = turned_add s.guest.script n m s.guest t.guest u.guest s.ram t.ram u.ram a.marks b.marks a.left_times b.left_times a.turned
+          (b.turned ∙ ap (λ (script : Entries). turn_of script m (turned_on t.guest t.ram [] 0)) a.same.script);
       same = record {
         script = b.same.script ∙ a.same.script;
         base = b.same.base ∙ a.same.base;
@@ -135,7 +139,8 @@ pub nothing_is_taken : NothingIsTaken
 unfolding trail
 nothing_is_taken s seated = record {
   marks = [];
-  turned = sym (nothing_turned s.guest.script (turned_on s.guest s.ram []));
+  left_times = 0;
+  turned = sym (nothing_turned s.guest.script (turned_on s.guest s.ram [] 0));
   same = record { script = refl; base = refl; size = refl; area = refl };
   seated = seated;
   within = record { count = refl; below = refl; above = refl };

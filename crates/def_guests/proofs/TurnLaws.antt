@@ -1,10 +1,12 @@
 -- Turns, one after the other.
-use Rattle.std.proofs.Common.{◌≡◌, ◌∙◌, ℕ, zero, suc, ◌+◌, List, ◌++◌, refl, ap, sym, true, inl, inr, arith, append_assoc}
+use Rattle.std.proofs.Common.{◌≡◌, ◌∙◌, ℕ, zero, suc, ◌+◌, List, refl, ap, sym, true, inl, inr, arith, append_assoc}
 use Rattle.std.proofs.lemmas.Bool.{cases_Bool}
+use Rattle.std.proofs.lemmas.List.{append-nil}
 use Rattle.mb_instr.specs.declared.registers.Plain.{Plain}
 use Rattle.def_machine.specs.Machine.{Entries, takes_steps}
-use Rattle.def_guests.specs.Turns.{Turned, marks_of, tallied, with_refills, class_of_step, refills_of_step, guest_stepped, advanced, turn_of}
-use Rattle.def_guests.specs.Laws.{HaltedTurnsStay, TurnsAdd, MarksStayBefore}
+use Rattle.def_guests.specs.Turns.{Turned, marks_of, exceptions_of, tallied, with_refills, class_of_step, refills_of_step, guest_stepped, advanced, afresh}
+use Rattle.def_guests.specs.Turns.{turn_of}
+use Rattle.def_guests.specs.Laws.{HaltedTurnsStay, TurnsAdd, MarksStayBefore, with_before}
 
 -- a turn that begins halted or off changes nothing
 pub halted_turn : HaltedTurnsStay
@@ -35,27 +37,37 @@ turns_add script (suc n) m t =
           ∙ ap (turn_of script m) (sym (halted_turn script (suc n) t still))
     ]
 
--- marks before a turn stay before its own
-abbrev pub with_front : List Plain → Turned → Turned
-with_front front t = record t { marks = front ++ t.marks }
-
-advanced_front : (script : Entries) (front : List Plain) (t : Turned) → advanced script (with_front front t) ≡ with_front front (advanced script t)
-advanced_front script front t =
-    ap (λ (marks : List Plain). record {
+-- marks and exceptions before a turn stay before its own
+advanced_behind : (script : Entries) (front : List Plain) (e : ℕ) (t : Turned)
+    → advanced script (with_before front e t) ≡ with_before front e (advanced script t)
+advanced_behind script front e t =
+    let class = class_of_step script t.guest in
+    let refills = refills_of_step script t.guest in
+    let more = exceptions_of class refills in
+    let of : List Plain → ℕ → Turned = λ marks exceptions. record {
       guest = guest_stepped script t.guest;
-      tally = with_refills (class_of_step script t.guest) (refills_of_step script t.guest) (tallied (class_of_step script t.guest) t.tally);
+      tally = with_refills class refills (tallied class t.tally);
       marks = marks;
-    })
-    (append_assoc front t.marks (marks_of (class_of_step script t.guest) t.guest.machine.cpu (guest_stepped script t.guest).machine.cpu))
+      exceptions = exceptions;
+    } in
+    ap (λ (marks : List Plain). of marks (e + t.exceptions + more))
+    (append_assoc front t.marks (marks_of class t.guest.machine.cpu (guest_stepped script t.guest).machine.cpu))
+    ∙ ap (of (with_before front e (advanced script t)).marks) (let z : e + t.exceptions + more ≡ e + (t.exceptions + more) = omega arith in z)
 
-pub turn_front : (script : Entries) (n : ℕ) (front : List Plain) (t : Turned) → turn_of script n (with_front front t) ≡ with_front front (turn_of script n t)
-turn_front script zero front t = nothing_turned script (with_front front t) ∙ ap (with_front front) (sym (nothing_turned script t))
-turn_front script (suc n) front t = elim (cases_Bool (takes_steps t.guest.machine.state)) [
-  | inl going ↦
-      going_turn script n (with_front front t) going ∙ ap (turn_of script n) (advanced_front script front t)
-      ∙ turn_front script n front (advanced script t) ∙ ap (with_front front) (sym (going_turn script n t going))
-  | inr still ↦ halted_turn script (suc n) (with_front front t) still ∙ ap (with_front front) (sym (halted_turn script (suc n) t still))
-]
+-- a turn that begins afresh, behind what stood there
+pub afresh_before : (t : Turned) → with_before t.marks t.exceptions (afresh t) ≡ t
+afresh_before t =
+    let of : List Plain → ℕ → Turned = λ marks exceptions. record t { marks = marks; exceptions = exceptions } in
+    ap (λ (marks : List Plain). of marks (t.exceptions + 0)) (append-nil t.marks)
+    ∙ ap (of t.marks) (let z : t.exceptions + 0 ≡ t.exceptions = omega arith in z)
 
 pub marks_stay_before : MarksStayBefore
-marks_stay_before script n marks t = turn_front script n marks t
+marks_stay_before script zero front e t =
+    nothing_turned script (with_before front e t) ∙ ap (with_before front e) (sym (nothing_turned script t))
+marks_stay_before script (suc n) front e t = elim (cases_Bool (takes_steps t.guest.machine.state)) [
+  | inl going ↦
+      going_turn script n (with_before front e t) going ∙ ap (turn_of script n) (advanced_behind script front e t)
+      ∙ marks_stay_before script n front e (advanced script t) ∙ ap (with_before front e) (sym (going_turn script n t going))
+  | inr still ↦
+      halted_turn script (suc n) (with_before front e t) still ∙ ap (with_before front e) (sym (halted_turn script (suc n) t still))
+]

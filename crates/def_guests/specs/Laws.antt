@@ -18,7 +18,8 @@ use Rattle.def_runs.specs.Marks.{trail}
 use Rattle.def_guests.specs.Guests.{Guest, IsReference, Truthful, allows, may}
 use Rattle.def_guests.specs.Bus.{accessed, guest_bus}
 use Rattle.def_guests.specs.Classes.{class_at, class_of_attempt}
-use Rattle.def_guests.specs.Turns.{Guested, Turned, guest_stepped, turn_of, steps_in, prepared, tally_of, marks_between}
+use Rattle.def_guests.specs.Turns.{Guested, Turned, guest_stepped, turn_of, steps_in, exits, prepared, tally_of}
+use Rattle.def_guests.specs.Turns.{marks_between}
 use Rattle.def_guests.specs.Seats.{Seat, machine_on, turned_on, IsSeated, Scene, Takes}
 use Rattle.def_guests.specs.Stages.{Stage, AllSeated, Turns, TakeTurns, steps_for, HasTaken}
 use Rattle.def_guests.specs.Rounds.{Hosted, Ends}
@@ -79,11 +80,13 @@ HaltedTurnsStay = (script : Entries) (n : ℕ) (t : Turned) → takes_steps t.gu
 abbrev pub TurnsAdd : Type 0
 TurnsAdd = (script : Entries) (n m : ℕ) (t : Turned) → turn_of script (n + m) t ≡ turn_of script m (turn_of script n t)
 
--- Marks that stand before a turn stay before its own, and have no part in it.
+-- Marks and exceptions that stand before a turn stay before its own, and have no part in it.
+abbrev pub with_before : List Plain → (exceptions : ℕ) → Turned → Turned
+with_before marks exceptions t = record t { marks = marks ++ t.marks; exceptions = exceptions + t.exceptions }
+
 abbrev pub MarksStayBefore : Type 0
-MarksStayBefore = (script : Entries) (n : ℕ) (marks : List Plain) (t : Turned)
-    → let before = record t { marks = marks ++ t.marks } in
-    turn_of script n before ≡ (let after = turn_of script n t in record after { marks = marks ++ after.marks })
+MarksStayBefore = (script : Entries) (n : ℕ) (marks : List Plain) (exceptions : ℕ) (t : Turned)
+    → turn_of script n (with_before marks exceptions t) ≡ with_before marks exceptions (turn_of script n t)
 
 -- ---- counts and marks
 
@@ -96,6 +99,14 @@ CountsAreSteps = (opening : Opening) (script : Entries) (size n : ℕ)
 abbrev pub MarksAreOfRetired : Type 0
 MarksAreOfRetired = (opening : Opening) (script : Entries) (size n : ℕ)
     → length (marks_between opening script size 0 n) ≡ 2 * (tally_of opening script size n).retired
+
+-- A turn has an exception or more for each step that the board leaves, and no more than 32 for each step.
+pub record AreBounded (t u : Turned) : Type 0 where
+  pub least : t.exceptions + exits u.tally ≤ u.exceptions + exits t.tally
+  pub most : u.exceptions + 32 * t.guest.machine.steps ≤ t.exceptions + 32 * u.guest.machine.steps
+
+abbrev pub ExceptionsAreBounded : Type 0
+ExceptionsAreBounded = (script : Entries) (n : ℕ) (t : Turned) → AreBounded t (turn_of script n t)
 
 -- The marks of a run are those of its first steps and then those of the others.
 abbrev pub MarksAppend : Type 0
@@ -131,7 +142,7 @@ pub record RunsAlone (opening : Opening) (script : Entries) (size n : ℕ) (gues
 
 abbrev pub PreparedGuestsRunAlone : Type 0
 PreparedGuestsRunAlone = (turns : Turns) (s t : Stage) → AllSeated s → TakeTurns turns s t → (j : ℕ) → j < s.count
-    → (opening : Opening) (size : ℕ) → turned_on (s.guests j) s.ram [] ≡ prepared opening size
+    → (opening : Opening) (size : ℕ) → turned_on (s.guests j) s.ram [] 0 ≡ prepared opening size
     → RunsAlone opening (s.guests j).script size (steps_for j turns) (t.guests j) t.ram
 
 -- Rounds end, each guest has then taken its bound, and a second run changes nothing.

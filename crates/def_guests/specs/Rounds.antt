@@ -22,7 +22,7 @@ is_done m = nat_le (left m) 0
 
 -- before a turn of its own
 abbrev pub opened : Member → Turned
-opened m = record { guest = m.guest; tally = m.tally; marks = [] }
+opened m = record { guest = m.guest; tally = m.tally; marks = []; exceptions = 0 }
 
 -- after it
 abbrev pub closed_by : Turned → Member → Member
@@ -34,24 +34,34 @@ turn_in slice m = turn_of m.script (min slice (left m)) (opened m)
 
 -- ---- rounds
 
--- all guests, and the marks of all turns so far, one turn after the other
+-- all guests, the marks of all turns so far, one turn after the other, and the exceptions of all
 pub record Hosted : Type 0 where
   pub members : List Member
   pub marks : List Plain
+  pub exceptions : ℕ
 
 -- all guests after a round
 abbrev pub members_after : ℕ → List Member → List Member
 members_after slice [] = []
 members_after slice (m ∷ members) = closed_by (turn_in slice m) m ∷ members_after slice members
 
--- and the marks of its turns
+-- the marks of its turns
 abbrev pub marks_after : ℕ → List Member → List Plain
 marks_after slice [] = []
 marks_after slice (m ∷ members) = (turn_in slice m).marks ++ marks_after slice members
 
+-- and their exceptions
+abbrev pub exceptions_after : ℕ → List Member → ℕ
+exceptions_after slice [] = 0
+exceptions_after slice (m ∷ members) = (turn_in slice m).exceptions + exceptions_after slice members
+
 -- A round: every guest in turn.
 abbrev pub round : ℕ → Hosted → Hosted
-round slice h = record { members = members_after slice h.members; marks = h.marks ++ marks_after slice h.members }
+round slice h = record {
+  members = members_after slice h.members;
+  marks = h.marks ++ marks_after slice h.members;
+  exceptions = h.exceptions + exceptions_after slice h.members;
+}
 
 -- all guests are
 abbrev pub all_done : List Member → Bool

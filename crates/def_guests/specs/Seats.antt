@@ -17,7 +17,7 @@ use Rattle.vm_shadow.specs.Mapped.{shadowed}
 use Rattle.vm_shadow.specs.declared.area.TheConstants.{AREA_BYTES}
 use Rattle.vm_shadow.specs.Area.{Maps}
 use Rattle.def_guests.specs.Guests.{Truthful}
-use Rattle.def_guests.specs.Turns.{Guested, Tally, Turned, bus_side, exits, turn_of}
+use Rattle.def_guests.specs.Turns.{Guested, Tally, Turned, bus_side, turn_of}
 use Rattle.def_guests.specs.declared.limits.TheConstants.{MONITOR_BYTES}
 
 -- ---- frames of the guest and of the board
@@ -82,9 +82,10 @@ shadow_on g ram = own g.base (shadowed g.slots ram)
 abbrev pub guested_on : Seat → List ℕ → Guested
 guested_on g ram = record { machine = machine_on g ram; shadow = shadow_on g ram }
 
--- with its counts, and marks
-abbrev pub turned_on : Seat → List ℕ → List Plain → Turned
-turned_on g ram marks = record { guest = guested_on g ram; tally = g.tally; marks = marks }
+-- with its counts, and with such marks and so many exceptions
+abbrev pub turned_on : Seat → List ℕ → List Plain → (exceptions : ℕ) → Turned
+turned_on g ram marks exceptions =
+    record { guest = guested_on g ram; tally = g.tally; marks = marks; exceptions = exceptions }
 
 -- ---- where it stands
 
@@ -125,10 +126,11 @@ pub record Scene : Type 0 where
 -- What a turn of so many steps promises. The board's processor, its caches and the monitor's bytes before it have no
 -- part in it.
 pub record Takes (n : ℕ) (s t : Scene) : Type 0 where
-  -- the marks of the steps that it took
+  -- the marks of the steps that it took, and the exceptions by which a board leaves them
   pub marks : List Plain
+  pub left_times : ℕ
   -- machine, shadow and counts are those after so many steps
-  pub turned : turned_on t.guest t.ram marks ≡ turn_of s.guest.script n (turned_on s.guest s.ram [])
+  pub turned : turned_on t.guest t.ram marks left_times ≡ turn_of s.guest.script n (turned_on s.guest s.ram [] 0)
   pub same : IsSame s.guest t.guest
   pub seated : IsSeated t.guest t.ram
   -- nothing of another guest has changed
@@ -136,5 +138,5 @@ pub record Takes (n : ℕ) (s t : Scene) : Type 0 where
   -- boards have carried out the retired steps, each from the guest's own registers to the guest's own registers
   pub retired : t.native.retired + s.guest.tally.retired ≡ s.native.retired + t.guest.tally.retired
   pub trail : t.native.trail ≡ trail s.native.trail marks
-  -- and left the privileged, trapped and denied ones, each by one exception or more
-  pub exceptions : s.native.exceptions + exits t.guest.tally ≤ t.native.exceptions + exits s.guest.tally
+  -- and left steps by so many exceptions
+  pub exceptions : t.native.exceptions ≡ s.native.exceptions + left_times

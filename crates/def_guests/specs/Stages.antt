@@ -50,5 +50,6 @@ steps_for j ((i, n) ∷ turns) = (if i == j then n else 0) + steps_for j turns
 
 -- A guest's machine, shadow and counts are those of one turn of so many steps.
 abbrev pub HasTaken : ℕ → ℕ → Stage → Stage → Type 0
-HasTaken j steps s t = (marks : List Plain)
-    × (turned_on (t.guests j) t.ram marks ≡ turn_of (s.guests j).script steps (turned_on (s.guests j) s.ram []))
+HasTaken j steps s t = (marks : List Plain) × (exceptions : ℕ)
+    × (turned_on (t.guests j) t.ram marks exceptions
+    ≡ turn_of (s.guests j).script steps (turned_on (s.guests j) s.ram [] 0))

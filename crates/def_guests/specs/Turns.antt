@@ -1,4 +1,5 @@
--- A guest's steps and turns: its machine with its shadow, how many steps of each class there were, and their marks.
+-- A guest's steps and turns: its machine with its shadow, how many steps of each class there were, their marks, and the
+-- exceptions by which a board leaves them.
 use Rattle.std.specs.Prelude.{ℕ, zero, suc, ◌+◌, ◌-◌, List, [], ◌∷◌, ◌++◌, if◌then◌else◌}
 use Rattle.mb_port.specs.Routine.{run}
 use Rattle.mb_instr.specs.declared.registers.Plain.{Plain}
@@ -117,13 +118,23 @@ abbrev pub marks_of : Class → Cpu → Cpu → List Plain
 marks_of Retired before after = plain_of before.regs ∷ plain_of after.regs ∷ []
 marks_of _ before after = []
 
+-- by how many exceptions a board leaves such a step, which begins again so often: by one each time that it begins
+-- again, and by one more where it is not retired then; in what is no attempt the board has no part
+abbrev pub exceptions_of : Class → (refills : ℕ) → ℕ
+exceptions_of Retired refills = refills
+exceptions_of Entered refills = 0
+exceptions_of Idle refills = 0
+exceptions_of Traced refills = 0
+exceptions_of _ refills = refills + 1
+
 -- ---- turns
 
--- a guest, what was counted of its steps, and the marks of those that were retired
+-- a guest, what was counted of its steps, the marks of those that were retired, and the exceptions of all
 pub record Turned : Type 0 where
   pub guest : Guested
   pub tally : Tally
   pub marks : List Plain
+  pub exceptions : ℕ
 
 -- with a step of this class, which began again so often and leaves this guest
 abbrev pub by_class : Class → (refills : ℕ) → Guested → Turned → Turned
@@ -131,6 +142,7 @@ by_class class refills after t = record {
   guest = after;
   tally = with_refills class refills (tallied class t.tally);
   marks = t.marks ++ marks_of class t.guest.machine.cpu after.machine.cpu;
+  exceptions = t.exceptions + exceptions_of class refills;
 }
 
 -- One step.
@@ -147,18 +159,22 @@ turn_of script (suc n) t = if takes_steps t.guest.machine.state then turn_of scr
 
 -- the start of a guest: its machine with an image, an empty shadow, nothing counted
 abbrev pub prepared : Opening → (size : ℕ) → Turned
-prepared opening size =
-    record { guest = record { machine = start rule_k opening size; shadow = nothing }; tally = no_steps; marks = [] }
+prepared opening size = record {
+  guest = record { machine = start rule_k opening size; shadow = nothing };
+  tally = no_steps;
+  marks = [];
+  exceptions = 0;
+}
 
 -- The count of each class over the first n steps.
 abbrev pub tally_of : Opening → Entries → (size n : ℕ) → Tally
 tally_of opening script size n = (turn_of script n (prepared opening size)).tally
 
--- before a turn whose marks are asked for alone
-abbrev pub without_marks : Turned → Turned
-without_marks t = record t { marks = [] }
+-- before a turn whose marks and exceptions are asked for alone
+abbrev pub afresh : Turned → Turned
+afresh t = record t { marks = []; exceptions = 0 }
 
 -- The marks of the steps k + 1 to n.
 abbrev pub marks_between : Opening → Entries → (size k n : ℕ) → List Plain
 marks_between opening script size k n =
-    (turn_of script (n - k) (without_marks (turn_of script k (prepared opening size)))).marks
+    (turn_of script (n - k) (afresh (turn_of script k (prepared opening size)))).marks

@@ -15,6 +15,7 @@ ghost use Rattle.def_guests.specs.Laws.{RunsAreByRule, StepsAreByRule, TurnsAreB
 ghost use Rattle.def_guests.specs.Laws.{AllowedAccessesAreStill, AttemptsAreJudged};
 ghost use Rattle.def_guests.specs.Laws.{HaltedTurnsStay, TurnsAdd, MarksStayBefore};
 ghost use Rattle.def_guests.specs.Laws.{CountsAreSteps, MarksAreOfRetired, MarksAppend, TrailsAppend};
+ghost use Rattle.def_guests.specs.Laws.{ExceptionsAreBounded};
 ghost use Rattle.def_guests.specs.Laws.{NothingIsTaken, TakesAdd};
 ghost use Rattle.def_guests.specs.Laws.{TurnsAreIndependent, PreparedGuestsRunAlone, RoundsEnd};
 ghost use Rattle.def_guests.specs.Rests.{TrapsAreFinished, DeniedWritesGoOn, DeniedLinesGoOn, DeniedTransfersGoOn};
@@ -48,12 +49,14 @@ pub fn turns_add()
     ensures marks { MarksStayBefore }
 {}
 
-/// The counts add up to the steps, and the marks are those of the retired ones, in order.
+/// The counts add up to the steps, the marks are those of the retired ones, in order, and each step that a board leaves
+/// it leaves by one exception or more.
 pub fn steps_are_counted()
     ensures counts { CountsAreSteps }
     ensures retired { MarksAreOfRetired }
     ensures marks { MarksAppend }
     ensures trail { TrailsAppend }
+    ensures exceptions { ExceptionsAreBounded }
 {}
 
 /// What a turn of a guest on a board promises adds up.

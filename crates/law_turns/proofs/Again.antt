@@ -1,5 +1,5 @@
 -- A seated guest in the middle of a step that begins again.
-use Rattle.std.proofs.Common.{◌≡◌, ◌∙◌, ℕ, ◌+◌, ◌-◌, ◌≤◌, List, [], ◌++◌, drop, refl, ap, sym, subst, arith, inl, inr, Some, None, true}
+use Rattle.std.proofs.Common.{◌≡◌, ◌∙◌, ℕ, ◌+◌, ◌-◌, List, [], ◌++◌, drop, refl, ap, sym, subst, arith, inl, inr, Some, None, true}
 use Rattle.mb_port.specs.Routine.{run}
 use Rattle.mb_instr.specs.declared.registers.Plain.{Plain}
 use Rattle.mb_model.specs.declared.processor.Cpu.{Cpu}
@@ -16,7 +16,8 @@ use Rattle.def_guests.specs.Guests.{Guest}
 use Rattle.def_guests.specs.Bus.{guest_bus}
 use Rattle.def_guests.specs.Refills.{begun_again}
 use Rattle.def_guests.specs.Classes.{class_at_first}
-use Rattle.def_guests.specs.Turns.{Guested, Turned, Tally, bus_side, guest_begun, guest_later, tallied, with_refills, exits, by_class, marks_of, advanced}
+use Rattle.def_guests.specs.Turns.{Guested, Turned, Tally, bus_side, guest_begun, guest_later, tallied, with_refills, by_class, marks_of, exceptions_of}
+use Rattle.def_guests.specs.Turns.{advanced}
 use Rattle.def_guests.specs.Turns.{guest_processed, guest_stepped, class_of_step, step_class_at_first, refills_of_step, turn_of}
 use Rattle.def_guests.specs.declared.class.Class.TheVariants as class
 use Rattle.def_guests.proofs.Counts.{refills_aside}
@@ -27,6 +28,9 @@ use Rattle.def_guests.proofs.Trails.{trail_append}
 use Rattle.def_guests.proofs.TurnLaws.{going_turn, nothing_turned, turns_add}
 use Rattle.law_turns.specs.Refill.{HasBegunAgain}
 use Rattle.law_turns.specs.Again.{Midway, unbegun, refilled_seat, MidwayAgain, MidwayAhead, MidwayEnds, MidwayBegins, MidwayTakes, MidwayWithin}
+use Rattle.law_turns.specs.Batch.{IsTried}
+use Rattle.law_turns.proofs.Quiet.{tried_class, untraced}
+use Rattle.law_turns.proofs.Taking.{same_turned}
 use Rattle.law_turns.proofs.Refill.{none_is_refilled, steps_begin_again, again_comes_to_the_same, again_advances}
 
 same_both : (g mid seat : Seat) → IsSame g mid → IsSame mid seat → IsSame g seat
@@ -47,7 +51,7 @@ within_both g mid ram now next same a b =
     }
 
 pub midway_again : MidwayAgain
-midway_again g ram native k n mid now counts m few h again seat next later machine world tally same seated within retired trail_same exceptions =
+midway_again g ram native k n left mid now counts m few h again seat next later machine world tally same seated within retired trail_same exceptions =
     let b = guest_begun g.script m.turn.guest in
     let cpu : mid.cpu ≡ b.machine.cpu = ap (λ (x : Machine). x.cpu) m.opened in
     let last : begun_again b.machine.cpu (bus_side (guested_on mid now)) ≡ Some (bus_side (guested_on seat next)) =
@@ -71,11 +75,11 @@ midway_again g ram native k n mid now counts m few h again seat next later machi
       within = within_both g mid ram now next m.same m.within within;
       retired = (let a = m.retired in let t = ap (λ (x : Tally). x.retired) tally in omega arith);
       trail_is = trail_same ∙ m.trail_is;
-      exceptions = subst (λ (x : Tally). native.exceptions + exits x ≤ later.exceptions + exits g.tally) (sym tally) (let a = m.exceptions in omega arith);
+      exceptions = exceptions ∙ m.exceptions;
     }
 
 pub midway_ahead : MidwayAhead
-midway_ahead g ram native k n mid now counts m h again =
+midway_ahead g ram native k n left mid now counts m h again =
     let b = guest_begun g.script m.turn.guest in
     let w = bus_side (guested_on mid now) in
     let level = asked_of g.script b.machine in
@@ -83,14 +87,33 @@ midway_ahead g ram native k n mid now counts m h again =
     let (fine, world, comes) = again_comes_to_the_same g.size level b.machine.cpu n (bus_side b) w m.masked m.untraced m.registers m.fine m.begun in
     (steps_begin_again g.size level b.machine.cpu w h m.masked m.untraced m.registers fine (ap (λ (c : Cpu). begun_again c w) (sym cpu) ∙ again)).0
 
-same_turn : (a b : Turned) → a.guest ≡ b.guest → a.tally ≡ b.tally → a.marks ≡ b.marks → a ≡ b
-same_turn a b g t m =
-    ap (λ (x : Guested). (let o : Turned = record a { guest = x } in o)) g
-    ∙ ap (λ (x : Tally). (let o : Turned = record { guest = b.guest; tally = x; marks = a.marks } in o)) t
-    ∙ ap (λ (x : List Plain). (let o : Turned = record { guest = b.guest; tally = b.tally; marks = x } in o)) m
+-- the board attempts it
+midway_tried : (g : Seat) (ram : List ℕ) (native : NativeState) (k n left : ℕ) (mid : Seat) (now : List ℕ) (counts : NativeState)
+    → Midway g ram native k n left mid now counts → IsTried (class_at_first (level_of mid.devices) mid.cpu (bus_side (guested_on mid now)))
+midway_tried g ram native k n left mid now counts m =
+    let w = bus_side (guested_on mid now) in
+    let b = guest_begun g.script m.turn.guest in
+    let cpu : mid.cpu ≡ b.machine.cpu = ap (λ (x : Machine). x.cpu) m.opened in
+    let (fine, world, comes) = again_comes_to_the_same g.size (asked_of g.script b.machine) b.machine.cpu n (bus_side b) w m.masked m.untraced
+    m.registers m.fine m.begun in
+    let level : level_of mid.devices ≡ asked_of g.script b.machine = ap (λ (x : World). level_of x.devices) world
+    ∙ sym (asked_masked g.script (b.machine.steps + 1) b.machine.world.devices b.machine.cpu m.masked) in
+    let tried = tried_class (asked_of g.script b.machine) b.machine.cpu w m.masked m.untraced.going (untraced _ _ m.untraced.all m.untraced.flow) in
+    subst (λ (c : Cpu). IsTried (class_at_first (level_of mid.devices) c w)) (sym cpu)
+    (subst (λ (l : ℕ). IsTried (class_at_first l b.machine.cpu w)) (sym level) tried)
+
+-- of such a step each time that it begins again is one exception more
+again_more : (c : Class) (n : ℕ) → IsTried c → exceptions_of c n ≡ exceptions_of c 0 + n
+again_more class.Retired n h = omega arith
+again_more class.Privileged n h = omega arith
+again_more class.Denied n h = omega arith
+again_more class.Trapped n h = omega arith
+again_more class.Entered n h = absurd h
+again_more class.Idle n h = absurd h
+again_more class.Traced n h = absurd h
 
 pub midway_ends : MidwayEnds
-midway_ends g ram native k n mid now counts m end seat next later means tally same seated within retired trail_goes exceptions =
+midway_ends g ram native k n left mid now counts m end seat next later means tally same seated within retired trail_goes exceptions =
     let w = bus_side (guested_on mid now) in
     let b = guest_begun g.script m.turn.guest in
     let cpu : mid.cpu ≡ b.machine.cpu = ap (λ (x : Machine). x.cpu) m.opened in
@@ -118,22 +141,25 @@ midway_ends g ram native k n mid now counts m end seat next later means tally sa
       | inl all ↦ inl all
       | inr none ↦ inr (ends ∙ none)
     ]) comes in
-    let turned : turned_on seat next (m.turn.marks ++ marks) ≡ turn_of g.script (k + 1) (turned_on g ram []) =
-    same_turn (turned_on seat next (m.turn.marks ++ marks)) (by_class class_there n later_there m.turn) guest
+    let more = m.turn.exceptions + exceptions_of class n in
+    let turned : turned_on seat next (m.turn.marks ++ marks) more ≡ turn_of g.script (k + 1) (turned_on g ram [] 0) =
+    same_turned (turned_on seat next (m.turn.marks ++ marks) more) (by_class class_there n later_there m.turn) guest
     (tally ∙ ap (λ (x : Tally). with_refills class n (tallied class x)) m.tally
     ∙ ap (λ (x : Class). with_refills x n (tallied x m.turn.tally)) (sym class_is))
     (ap (λ (x : List Plain). m.turn.marks ++ x) marks_is)
+    (ap (λ (x : Class). m.turn.exceptions + exceptions_of x n) (sym class_is))
     ∙ sym advances ∙ sym (nothing_turned g.script (advanced g.script m.turn)) ∙ sym (going_turn g.script 0 m.turn m.goes)
-    ∙ ap (turn_of g.script 1) m.taken ∙ sym (turns_add g.script k 1 (turned_on g ram [])) in
+    ∙ ap (turn_of g.script 1) m.taken ∙ sym (turns_add g.script k 1 (turned_on g ram [] 0)) in
     record {
       marks = m.turn.marks ++ marks;
+      left_times = more;
       turned = turned;
       same = same_both g mid seat m.same same;
       seated = seated;
       within = within_both g mid ram now next m.same m.within within;
       retired = (let a = m.retired in omega arith);
       trail = trail_goes ∙ ap (λ (x : ℕ). trail x marks) m.trail_is ∙ sym (trail_append native.trail m.turn.marks marks);
-      exceptions = (let a = m.exceptions in omega arith);
+      exceptions = (let a = m.exceptions in omega (arith, a, exceptions));
     }
 
 -- ---- the guest before the step
@@ -157,7 +183,7 @@ same_guested p q e f =
     ∙ ap (λ (x : Shadowed). (let o : Guested = record { machine = q.machine; shadow = x } in o)) f
 
 pub midway_begins : MidwayBegins
-midway_begins g ram native k n mid now counts m =
+midway_begins g ram native k n left mid now counts m =
     let b = guest_begun g.script m.turn.guest in
     let w = bus_side (guested_on mid now) in
     let (fine, world, comes) = again_comes_to_the_same g.size (asked_of g.script b.machine) b.machine.cpu n (bus_side b) w m.masked m.untraced
@@ -184,9 +210,9 @@ seated_still class n seat next s = record {
 }
 
 -- no abort arrives at it
-pub midway_level : (g : Seat) (ram : List ℕ) (native : NativeState) (k n : ℕ) (mid : Seat) (now : List ℕ) (counts : NativeState)
-    → Midway g ram native k n mid now counts → asked_of g.script (machine_on mid now) ≡ level_of mid.devices
-midway_level g ram native k n mid now counts m =
+pub midway_level : (g : Seat) (ram : List ℕ) (native : NativeState) (k n left : ℕ) (mid : Seat) (now : List ℕ) (counts : NativeState)
+    → Midway g ram native k n left mid now counts → asked_of g.script (machine_on mid now) ≡ level_of mid.devices
+midway_level g ram native k n left mid now counts m =
     let b = guest_begun g.script m.turn.guest in
     asked_devices g.script (mid.steps + 1) mid.devices (ap (λ (x : Machine). aborts (x.steps + 1) g.script) m.opened
     ∙ unaborted g.script (b.machine.steps + 1) b.machine.world.devices b.machine.cpu m.masked)
@@ -195,10 +221,10 @@ pub midway_takes : MidwayTakes
 midway_takes g ram native k n mid now counts m none seat next later takes =
     let w = bus_side (guested_on mid now) in
     let from = unbegun mid m.turn in
-    let t = turned_on from now [] in
+    let t = turned_on from now [] 0 in
     let start = guested_on from now in
-    let begins : guest_begun g.script start ≡ guested_on mid now = midway_begins g ram native k n mid now counts m in
-    let level = midway_level g ram native k n mid now counts m in
+    let begins : guest_begun g.script start ≡ guested_on mid now = midway_begins g ram native k n n mid now counts m in
+    let level = midway_level g ram native k n n mid now counts m in
     let class = class_at_first (level_of mid.devices) mid.cpu w in
     let state : mid.state ≡ m.turn.guest.machine.state = ap (λ (x : Machine). x.state) m.opened in
     let goes : takes_steps mid.state ≡ true = ap takes_steps state ∙ m.goes in
@@ -211,7 +237,7 @@ midway_takes g ram native k n mid now counts m none seat next later takes =
     let stepped_is : guest_stepped g.script start ≡ stepped =
     ap (λ (q : Guested). guest_later q.machine (guest_processed g.script q)) begins
     ∙ ap (λ (l : ℕ). guest_later (machine_on mid now) (run guest_bus (step_of l mid.cpu) w)) level in
-    let one : turned_on seat next takes.marks ≡ by_class class 0 stepped t =
+    let one : turned_on seat next takes.marks takes.left_times ≡ by_class class 0 stepped t =
     takes.turned ∙ ap (λ (script : Entries). turn_of script 1 t) m.same.script ∙ going_turn g.script 0 t goes ∙ nothing_turned g.script (advanced g.script t)
     ∙ ap (λ (c : Class). by_class c (refills_of_step g.script start) (guest_stepped g.script start) t) class_is
     ∙ ap (λ (i : ℕ). by_class class i (guest_stepped g.script start) t) refills
@@ -221,14 +247,15 @@ midway_takes g ram native k n mid now counts m none seat next later takes =
     let marks : takes.marks ≡ marks_of class mid.cpu seat.cpu =
     ap (λ (x : Turned). x.marks) one ∙ ap (λ (q : Guested). marks_of class mid.cpu q.machine.cpu) (sym guest) in
     let aside = refills_aside class n seat.tally in
-    midway_ends g ram native k n mid now counts m (inr none) (refilled_seat class n seat) next later guest
+    midway_ends g ram native k n n mid now counts m (inr none) (refilled_seat class n seat) next later guest
     (ap (λ (x : Tally). with_refills class n x) tally)
     (record { script = takes.same.script; base = takes.same.base; size = takes.same.size; area = takes.same.area })
     (seated_still class n seat next takes.seated)
     (record { count = takes.within.count; below = takes.within.below; above = takes.within.above })
     (let e = takes.retired in let f = aside.1 in omega arith)
     (takes.trail ∙ ap (λ (l : List Plain). trail counts.trail l) marks)
-    (let e = takes.exceptions in let f = aside.2 in omega arith)
+    (let e = takes.exceptions in let f = ap (λ (x : Turned). x.exceptions) one in
+    let z = again_more class n (midway_tried g ram native k n n mid now counts m) in omega (arith, e, f, z))
 
 -- ---- one run within another
 
@@ -237,13 +264,13 @@ unfolding trail
 nothing_trailed t = refl
 
 pub midway_within : MidwayWithin
-midway_within g ram native k n mid now counts m seat next later i =
+midway_within g ram native k n left mid now counts m seat next later more i =
     let b = guest_begun g.script m.turn.guest in
     let from = unbegun mid m.turn in
-    let turn : i.turn ≡ turned_on from now [] = i.taken ∙ nothing_turned from.script (turned_on from now []) in
+    let turn : i.turn ≡ turned_on from now [] 0 = i.taken ∙ nothing_turned from.script (turned_on from now [] 0) in
     let begins : guest_begun from.script i.turn.guest ≡ guested_on mid now =
     ap (λ (script : Entries). guest_begun script i.turn.guest) m.same.script ∙ ap (λ (t : Turned). guest_begun g.script t.guest) turn
-    ∙ midway_begins g ram native k n mid now counts m in
+    ∙ midway_begins g ram native k n left mid now counts m in
     let world : bus_side (guested_on seat next) ≡ bus_side (guested_on mid now) = i.begun ∙ ap bus_side begins in
     let tally : seat.tally ≡ mid.tally = i.tally ∙ ap (λ (t : Turned). t.tally) turn in
     let same : IsSame mid seat = record { script = i.same.script; base = i.same.base; size = i.same.size; area = i.same.area } in
@@ -266,5 +293,5 @@ midway_within g ram native k n mid now counts m seat next later i =
       within = within_both g mid ram now next m.same m.within within;
       retired = (let a = m.retired in let c = i.retired in omega arith);
       trail_is = i.trail_is ∙ ap (λ (t : Turned). trail counts.trail t.marks) turn ∙ nothing_trailed counts.trail ∙ m.trail_is;
-      exceptions = (let a = m.exceptions in let c = i.exceptions in omega arith);
+      exceptions = (let a = m.exceptions in let c = i.exceptions in let z = ap (λ (t : Turned). t.exceptions) turn in omega (arith, a, c, z));
     }

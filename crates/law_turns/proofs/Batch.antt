@@ -65,6 +65,7 @@ retiring t after = record {
   guest = after;
   tally = record t.tally { retired = t.tally.retired + 1 };
   marks = t.marks ++ plain_of t.guest.machine.cpu.regs ∷ plain_of after.machine.cpu.regs ∷ [];
+  exceptions = t.exceptions + 0;
 }
 
 advanced_is : (script : Entries) (t : Turned) → (class_of_step script t.guest ≡ Retired) × (refills_of_step script t.guest ≡ 0)
@@ -125,6 +126,7 @@ none_yet x script n r after t running same sum end =
       tally = ap (λ (u : Turned). u.tally) e ∙ ap (λ (k : ℕ). (let o : Tally = record t.tally { retired = k } in o))
           (let z : t.tally.retired ≡ t.tally.retired + 0 = omega arith in z);
       marked = ap (λ (u : Turned). u.marks) e ∙ nothing_more t.marks;
+      unleft = ap (λ (u : Turned). u.exceptions) e;
       counted = same ∙ (let z : r.native.retired ≡ r.native.retired + 0 = omega arith in z);
       sum = sum ∙ trail_none r.native.trail;
       all = tt;
@@ -142,11 +144,11 @@ inside_by x script m g s t h = record { count = h.outside.count; below = h.outsi
 
 -- one more before a batch
 one_more : (x : Site) (script : Entries) (n : ℕ) (r one after : Ran) (t u : Turned) → takes_steps t.guest.machine.state ≡ true → advanced script t ≡ u
-    → (p q : Plain) → u.tally ≡ record t.tally { retired = t.tally.retired + 1 } → u.marks ≡ t.marks ++ p ∷ q ∷ []
+    → (p q : Plain) → u.tally ≡ record t.tally { retired = t.tally.retired + 1 } → u.marks ≡ t.marks ++ p ∷ q ∷ [] → u.exceptions ≡ t.exceptions
     → Wanted t.guest → step_class_at_first script t.guest ≡ Retired → u.guest ≡ guest_stepped script t.guest
     → IsInside x r.machine.world.ram one.machine.world.ram → one.machine.cpu.regs.isp ≡ r.machine.cpu.regs.isp
     → one.native ≡ with_retired p q r.native → Batch x script n one u after → Batch x script (suc n) r t after
-one_more x script n r one after t u on is p q tally marks want retired here inside isp native b =
+one_more x script n r one after t u on is p q tally marks unleft want retired here inside isp native b =
     let k = b.retired in
     let e : turn_of script (suc k) t ≡ turn_of script k u = turn_on script k t on ∙ ap (λ (v : Turned). turn_of script k v) is in
     let exceptions : one.native.exceptions ≡ r.native.exceptions = ap (λ (v : NativeState). v.exceptions) native in
@@ -157,6 +159,7 @@ one_more x script n r one after t u on is p q tally marks want retired here insi
           ∙ ap (λ (m : ℕ). (let o : Tally = record t.tally { retired = m } in o)) (let z : t.tally.retired + 1 + k ≡ t.tally.retired + suc k = omega arith in
           z);
       marked = ap (λ (v : Turned). v.marks) e ∙ b.marked ∙ ap (λ (l : List Plain). l ++ b.marks) marks ∙ assoc t.marks (p ∷ q ∷ []) b.marks;
+      unleft = ap (λ (v : Turned). v.exceptions) e ∙ b.unleft ∙ unleft;
       counted = b.counted ∙ ap (λ (v : NativeState). v.retired + k) native ∙ (let z : r.native.retired + 1 + k ≡ r.native.retired + suc k = omega arith in z);
       sum = b.sum ∙ ap (λ (v : NativeState). trail v.trail b.marks) native ∙ trail_two r.native.trail p q b.marks;
       all = (want, retired, subst (λ (g : Guested). AllRetired script k g) here b.all);
@@ -216,7 +219,8 @@ runs_are_batches x script (suc n) r t end b f running on (want, tried, more) =
           ∙ ap (λ (p : Plain). with_retired (plain_of g.machine.cpu.regs) p r.native) h.boarded.plain in
           subst (Batch x script (suc n) r t) (sym (run_on n r goes))
           (one_more x script n r one (user_run n one) t u going (advanced_is script t (first_is_last x script r.machine g b want.registers retired))
-          (plain_of g.machine.cpu.regs) (plain_of (guest_stepped script g).machine.cpu.regs) refl refl want retired refl
+          (plain_of g.machine.cpu.regs) (plain_of (guest_stepped script g).machine.cpu.regs) refl refl
+          (let none : t.exceptions + 0 ≡ t.exceptions = omega arith in none) want retired refl
           (inside_by x script r.machine g s (guest_stepped script g) h) h.from.isp native
           (runs_are_batches x script n one u goes h.boarded (stays_furnished x script r.machine g s (guest_stepped script g) h f)
           (λ some. runs_behind x script r.machine g h (on (omega arith))) (λ some. stays_on x script r.machine g h (on (omega arith))) (more retired)))

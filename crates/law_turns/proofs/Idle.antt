@@ -76,15 +76,17 @@ advanced_is : (script : Entries) (t : Turned) → IsIdle script t.guest
     → advanced script t ≡ idle_turned 1 (guest_begun script t.guest).machine.world.devices t
 advanced_is script t idle =
     let d = (guest_begun script t.guest).machine.world.devices in
-    let of : List Plain → Turned = λ marks. record {
+    let of : List Plain → ℕ → Turned = λ marks exceptions. record {
       guest = idle_guest 1 d t.guest;
       tally = record t.tally { idle = t.tally.idle + 1 };
       marks = marks;
+      exceptions = exceptions;
     } in
     let refills = refills_of_step script t.guest in
     ap (λ (c : Class). by_class c refills (guest_stepped script t.guest) t) (class_is script t.guest idle)
     ∙ ap (λ (q : Guested). by_class class.Idle refills q t) (stepped_is script t.guest idle)
-    ∙ ap of (append-nil t.marks)
+    ∙ ap (λ (marks : List Plain). of marks (t.exceptions + 0)) (append-nil t.marks)
+    ∙ ap (of t.marks) (let none : t.exceptions + 0 ≡ t.exceptions = omega arith in none)
 
 -- ---- many
 
@@ -167,7 +169,8 @@ pub idle_steps_take : IdleStepsTake
 unfolding trail
 idle_steps_take g ram native n seated idle on quiet due = record {
   marks = [];
-  turned = sym (quiet_steps_are_idle g.script n (turned_on g ram []) idle on quiet due);
+  left_times = 0;
+  turned = sym (quiet_steps_are_idle g.script n (turned_on g ram [] 0) idle on quiet due);
   same = record { script = refl; base = refl; size = refl; area = refl };
   seated = seated_still g ram (suc n) _ seated;
   within = record { count = refl; below = refl; above = refl };

@@ -102,7 +102,7 @@ pub tried_class : (level : ℕ) (cpu : Cpu) (g : Guest) → rank level ≤ inter
 tried_class level cpu g a b t = by_tests (nat_lt (interrupt_mask cpu) (rank level)) cpu.stopped (is_traced cpu) (class_of_attempt cpu g)
     (not_above (interrupt_mask cpu) (rank level) a) b t (tried_attempt cpu g)
 
-untraced : (a b : Bool) → a ≡ false → b ≡ false → (a || b) ≡ false
+pub untraced : (a b : Bool) → a ≡ false → b ≡ false → (a || b) ≡ false
 untraced a b h k = rw h (rw k refl)
 
 pub one_of : (n : ℕ) (d : DeviceState) → IsNotDue (suc n) d → IsNotDue 1 d

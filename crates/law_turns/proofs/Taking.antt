@@ -28,7 +28,8 @@ use Rattle.def_guests.specs.Guests.{Guest, Truthful}
 use Rattle.law_mirror.specs.Related.{Site, AllAgree, mapping}
 use Rattle.law_mirror.specs.Ready.{native_mmu}
 use Rattle.def_runs.specs.declared.RunEnd.TheVariants.{Counted, Exit}
-use Rattle.def_guests.specs.Turns.{Guested, Turned, Tally, bus_side, guest_begun, guest_later, tallied, with_refills, exits, marks_of, by_class, advanced}
+use Rattle.def_guests.specs.Turns.{Guested, Turned, Tally, bus_side, guest_begun, guest_later, tallied, with_refills, exceptions_of, marks_of, by_class}
+use Rattle.def_guests.specs.Turns.{advanced}
 use Rattle.def_guests.specs.Turns.{turn_of, step_class_at_first}
 use Rattle.def_machine.specs.declared.reference.Reference.{Reference}
 use Rattle.def_machine.specs.World.{World}
@@ -60,11 +61,11 @@ use Rattle.law_turns.proofs.Batch.{runs_are_batches}
 use Rattle.law_turns.proofs.Quiet.{retired_steps_leave}
 use Rattle.law_turns.proofs.Turn.{boards_are_ready, exits_advance}
 
-same_turned : (a b : Turned) → a.guest ≡ b.guest → a.tally ≡ b.tally → a.marks ≡ b.marks → a ≡ b
-same_turned a b g t m =
-    ap (λ (x : Guested). (let o : Turned = record { guest = x; tally = a.tally; marks = a.marks } in o)) g
-    ∙ ap (λ (x : Tally). (let o : Turned = record { guest = b.guest; tally = x; marks = a.marks } in o)) t
-    ∙ ap (λ (x : List Plain). (let o : Turned = record { guest = b.guest; tally = b.tally; marks = x } in o)) m
+pub same_turned : (a b : Turned) → a.guest ≡ b.guest → a.tally ≡ b.tally → a.marks ≡ b.marks → a.exceptions ≡ b.exceptions → a ≡ b
+same_turned a b g t m e =
+    let of : Guested → Tally → List Plain → ℕ → Turned = λ g t m e. record { guest = g; tally = t; marks = m; exceptions = e } in
+    ap (λ (x : Guested). of x a.tally a.marks a.exceptions) g ∙ ap (λ (x : Tally). of b.guest x a.marks a.exceptions) t
+    ∙ ap (λ (x : List Plain). of b.guest b.tally x a.exceptions) m ∙ ap (of b.guest b.tally b.marks) e
 
 same_guest : (a b : Guested) → a.machine.cpu ≡ b.machine.cpu → a.machine.world.ram ≡ b.machine.world.ram → a.machine.world.mmu ≡ b.machine.world.mmu
     → a.machine.world.devices ≡ b.machine.world.devices → a.machine.world.kept ≡ b.machine.world.kept → a.machine.steps ≡ b.machine.steps
@@ -130,7 +131,7 @@ batches_take g c world steps state native before n s bytes small running on seve
     let guest = guested_on g ram in
     let r = about_to_run (ready_for c world steps state guest) native before in
     let after = user_run k r in
-    let t = turned_on g ram [] in
+    let t = turned_on g ram [] 0 in
     let ready = boards_are_ready x c world steps state guest cpu set refl seven (stands_of g ram s bytes small) in
     let b = runs_are_batches x g.script k r t refl ready.0 ready.1 (λ some. running) (λ more. on (omega arith)) stretch in
     let (all, done) = is_counted x k r after t g tallied b in
@@ -159,7 +160,8 @@ batches_take g c world steps state native before n s bytes small running on seve
     let tally_is : seat.tally ≡ u.tally = ap (λ (n : ℕ). (let o : Tally = record g.tally { retired = g.tally.retired + n } in o)) (sym all) ∙ sym b.tally in
     record {
       marks = b.marks;
-      turned = same_turned (turned_on seat ram' b.marks) u same tally_is (sym b.marked) ∙ ap (λ (n : ℕ). turn_of g.script n t) all;
+      left_times = 0;
+      turned = same_turned (turned_on seat ram' b.marks 0) u same tally_is (sym b.marked) (sym b.unleft) ∙ ap (λ (n : ℕ). turn_of g.script n t) all;
       same = record { script = refl; base = refl; size = refl; area = refl };
       seated = record {
         aligned = s.aligned;
@@ -186,14 +188,14 @@ is_exit x k v r after t g e b = elim b.end [
   | inr h ↦ h
 ]
 
--- an exit counts one more exception of the turn
-by_vector : (a b : Bool) (t : Tally) → exits (tallied (cond a class.Denied (cond b class.Privileged class.Trapped)) t) ≡ exits t + 1
-by_vector true b t = omega arith
-by_vector false true t = omega arith
-by_vector false false t = omega arith
+-- what the board leaves so, and does not begin again, it leaves by one exception
+one_exception_by : (a b : Bool) → exceptions_of (cond a class.Denied (cond b class.Privileged class.Trapped)) 0 ≡ 1
+one_exception_by true b = omega arith
+one_exception_by false true = omega arith
+one_exception_by false false = omega arith
 
-exit_counts : (v : ℕ) (t : Tally) → exits (tallied (class_of_vector v) t) ≡ exits t + 1
-exit_counts v t = by_vector (v == ACCESS_ERROR) (is_refusal v) t
+one_exception : (v : ℕ) → exceptions_of (class_of_vector v) 0 ≡ 1
+one_exception v = one_exception_by (v == ACCESS_ERROR) (is_refusal v)
 
 exit_keeps_by : (a b : Bool) (t : Tally) → (tallied (cond a class.Denied (cond b class.Privileged class.Trapped)) t).retired ≡ t.retired
 exit_keeps_by true b t = refl
@@ -256,7 +258,7 @@ exits_take g c world steps state native before k v s bytes small running on seve
     let guest = guested_on g ram in
     let r = about_to_run (ready_for c world steps state guest) native before in
     let after = user_run k r in
-    let t = turned_on g ram [] in
+    let t = turned_on g ram [] 0 in
     let ready = boards_are_ready x c world steps state guest cpu set refl seven (stands_of g ram s bytes small) in
     let b = runs_are_batches x g.script k r t refl ready.0 ready.1 (λ some. running) on stretch in
     let (few, h) = is_exit x k v r after t g exits_at b in
@@ -384,7 +386,7 @@ exits_take g c world steps state native before k v s bytes small running on seve
               within = within_left;
               retired = (let n = b.counted in omega arith);
               trail_is = b.sum ∙ ap (λ (l : List Plain). trail native.trail l) (sym b.marked);
-              exceptions = (let n = h.exceptions in omega arith);
+              exceptions = (let n = h.exceptions in let z = b.unleft in omega arith);
             },
             ap (λ (c : Cpu). begun_again c now) cpu_there ∙ ap (begun_again o.machine.cpu) stays ∙ sym again_is ∙ e,
             ap class_of_vector vector_is ∙ h.left.class ∙ first_is g.script u.guest
@@ -398,18 +400,20 @@ exits_take g c world steps state native before k v s bytes small running on seve
           );
       turn = λ seat next last e tally is seated within. record {
         marks = b.marks;
-        turned = same_turned (turned_on seat next b.marks) later (e ∙ ap (λ (q : Guested). with_rest q (level_of begun)) same
+        left_times = 1;
+        turned = same_turned (turned_on seat next b.marks 1) later (e ∙ ap (λ (q : Guested). with_rest q (level_of begun)) same
             ∙ ap (λ (l : ℕ). with_rest opened l) level_w ∙ ap rest_at (sym is_w))
             (tally ∙ ap (λ (q : Tally). tallied (class_of_vector h.vector) q) (sym b.tally)
             ∙ sym (no_refills (class_of_vector h.vector) (tallied (class_of_vector h.vector) u.tally)))
             (sym (ap (λ (l : List Plain). u.marks ++ l) (no_marks h.vector u.guest.machine.cpu (rest_at u.guest).machine.cpu) ∙ nothing_more u.marks
             ∙ b.marked))
+            (let one = one_exception h.vector in let z = b.unleft in omega arith)
             ∙ sym (turn_is (sym again_is ∙ last));
         same = record { script = is.script; base = is.base; size = is.size; area = is.area };
         seated = seated;
         within = record { count = within.count ∙ within_left.count; below = within.below ∙ within_left.below; above = within.above ∙ within_left.above };
         retired = (let e = b.counted in let f = ap (λ (q : Tally). q.retired) tally ∙ exit_keeps h.vector mid.tally in omega arith);
         trail = b.sum;
-        exceptions = (let e = h.exceptions in let f = ap exits tally ∙ exit_counts h.vector mid.tally in omega arith);
+        exceptions = h.exceptions;
       };
     }

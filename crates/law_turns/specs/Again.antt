@@ -14,21 +14,21 @@ use Rattle.def_guests.specs.Bus.{guest_bus}
 use Rattle.def_guests.specs.Refills.{begun_again}
 use Rattle.def_guests.specs.declared.limits.TheConstants.{MOST_REFILLS}
 use Rattle.def_guests.specs.Classes.{class_at_first}
-use Rattle.def_guests.specs.Turns.{Turned, bus_side, guest_begun, guest_later, tallied, with_refills, exits}
-use Rattle.def_guests.specs.Turns.{marks_of, turn_of}
+use Rattle.def_guests.specs.Turns.{Turned, bus_side, guest_begun, guest_later, tallied, with_refills}
+use Rattle.def_guests.specs.Turns.{marks_of, exceptions_of, turn_of}
 use Rattle.def_guests.specs.Seats.{Seat, machine_on, guested_on, turned_on, IsSeated, IsSame, OnlyWithin, Takes}
 use Rattle.law_held.specs.Truth.{Fine}
 use Rattle.law_held.specs.Refills.{IsAhead}
 use Rattle.law_turns.specs.Retire.{HasRegisters}
 use Rattle.law_turns.specs.Refill.{HasBegunAgain}
 
--- Of a turn so many steps are taken, the next has begun, and it has begun again so often. The guest stands on the board
--- as `mid`, and boards have counted so far.
-pub record Midway (g : Seat) (ram : List ℕ) (native : NativeState) (k n : ℕ) (mid : Seat) (now : List ℕ)
+-- Of a turn so many steps are taken, the next has begun, it has begun again so often, and the board has left it so
+-- often. The guest stands on the board as `mid`, and boards have counted so far.
+pub record Midway (g : Seat) (ram : List ℕ) (native : NativeState) (k n left : ℕ) (mid : Seat) (now : List ℕ)
     (counts : NativeState) : Type 0 where
   -- before the step
   pub turn : Turned
-  pub taken : turn ≡ turn_of g.script k (turned_on g ram [])
+  pub taken : turn ≡ turn_of g.script k (turned_on g ram [] 0)
   pub goes : takes_steps turn.guest.machine.state ≡ true
   -- an untraced instruction
   pub masked : let b = guest_begun g.script turn.guest in
@@ -49,29 +49,29 @@ pub record Midway (g : Seat) (ram : List ℕ) (native : NativeState) (k n : ℕ)
   -- what boards have counted
   pub retired : counts.retired + g.tally.retired ≡ native.retired + mid.tally.retired
   pub trail_is : counts.trail ≡ trail native.trail turn.marks
-  pub exceptions : native.exceptions + exits mid.tally ≤ counts.exceptions + exits g.tally
+  pub exceptions : counts.exceptions ≡ native.exceptions + turn.exceptions + left
 
 -- Where the read that the step was denied is filled and put, it begins once more.
 abbrev pub MidwayAgain : Type 0
-MidwayAgain = (g : Seat) (ram : List ℕ) (native : NativeState) (k n : ℕ) (mid : Seat) (now : List ℕ)
-    (counts : NativeState) → Midway g ram native k n mid now counts → suc n ≤ MOST_REFILLS
+MidwayAgain = (g : Seat) (ram : List ℕ) (native : NativeState) (k n left : ℕ) (mid : Seat) (now : List ℕ)
+    (counts : NativeState) → Midway g ram native k n left mid now counts → suc n ≤ MOST_REFILLS
     → (h : Guest) → begun_again mid.cpu (bus_side (guested_on mid now)) ≡ Some h
     → (seat : Seat) (next : List ℕ) (later : NativeState)
     → machine_on seat next ≡ record (machine_on mid now) { world = h.world } → bus_side (guested_on seat next) ≡ h
     → seat.tally ≡ mid.tally → IsSame mid seat → IsSeated seat next → OnlyWithin mid now next
-    → later.retired ≡ counts.retired → later.trail ≡ counts.trail → counts.exceptions ≤ later.exceptions
-    → Midway g ram native k (suc n) seat next later
+    → later.retired ≡ counts.retired → later.trail ≡ counts.trail → later.exceptions ≡ counts.exceptions
+    → Midway g ram native k (suc n) left seat next later
 
 -- Its shadow has each entry then that it had.
 abbrev pub MidwayAhead : Type 0
-MidwayAhead = (g : Seat) (ram : List ℕ) (native : NativeState) (k n : ℕ) (mid : Seat) (now : List ℕ)
-    (counts : NativeState) → Midway g ram native k n mid now counts → let w = bus_side (guested_on mid now) in
+MidwayAhead = (g : Seat) (ram : List ℕ) (native : NativeState) (k n left : ℕ) (mid : Seat) (now : List ℕ)
+    (counts : NativeState) → Midway g ram native k n left mid now counts → let w = bus_side (guested_on mid now) in
     (h : Guest) → begun_again mid.cpu w ≡ Some h → IsAhead g.size w h
 
 -- Else whoever carries out the step from there, over the guest's own bus, has taken it, by the class of that attempt.
 abbrev pub MidwayEnds : Type 0
-MidwayEnds = (g : Seat) (ram : List ℕ) (native : NativeState) (k n : ℕ) (mid : Seat) (now : List ℕ)
-    (counts : NativeState) → Midway g ram native k n mid now counts
+MidwayEnds = (g : Seat) (ram : List ℕ) (native : NativeState) (k n left : ℕ) (mid : Seat) (now : List ℕ)
+    (counts : NativeState) → Midway g ram native k n left mid now counts
     → let w = bus_side (guested_on mid now) in let level = level_of mid.devices in
     let class = class_at_first level mid.cpu w in
     (n ≡ MOST_REFILLS) ⊎ (begun_again mid.cpu w ≡ None)
@@ -81,7 +81,7 @@ MidwayEnds = (g : Seat) (ram : List ℕ) (native : NativeState) (k n : ℕ) (mid
     → IsSame mid seat → IsSeated seat next → OnlyWithin mid now next
     → later.retired + mid.tally.retired ≡ counts.retired + seat.tally.retired
     → later.trail ≡ trail counts.trail (marks_of class mid.cpu seat.cpu)
-    → counts.exceptions + exits seat.tally ≤ later.exceptions + exits mid.tally
+    → later.exceptions + left ≡ counts.exceptions + exceptions_of class n
     → Takes (k + 1) (record { guest = g; ram = ram; native = native })
     (record { guest = seat; ram = next; native = later })
 
@@ -91,8 +91,8 @@ unbegun mid turn = record mid { devices = turn.guest.machine.world.devices }
 
 -- It begins the step as the guest that stands there.
 abbrev pub MidwayBegins : Type 0
-MidwayBegins = (g : Seat) (ram : List ℕ) (native : NativeState) (k n : ℕ) (mid : Seat) (now : List ℕ)
-    (counts : NativeState) → (m : Midway g ram native k n mid now counts)
+MidwayBegins = (g : Seat) (ram : List ℕ) (native : NativeState) (k n left : ℕ) (mid : Seat) (now : List ℕ)
+    (counts : NativeState) → (m : Midway g ram native k n left mid now counts)
     → guest_begun g.script (guested_on (unbegun mid m.turn) now) ≡ guested_on mid now
 
 -- with as many refills of its last step, of this class
@@ -103,7 +103,7 @@ refilled_seat class n seat = record seat { tally = with_refills class n seat.tal
 -- board takes it.
 abbrev pub MidwayTakes : Type 0
 MidwayTakes = (g : Seat) (ram : List ℕ) (native : NativeState) (k n : ℕ) (mid : Seat) (now : List ℕ)
-    (counts : NativeState) → (m : Midway g ram native k n mid now counts) → let w = bus_side (guested_on mid now) in
+    (counts : NativeState) → (m : Midway g ram native k n n mid now counts) → let w = bus_side (guested_on mid now) in
     begun_again mid.cpu w ≡ None → (seat : Seat) (next : List ℕ) (later : NativeState)
     → Takes 1 (record { guest = unbegun mid m.turn; ram = now; native = counts })
     (record { guest = seat; ram = next; native = later })
@@ -116,7 +116,8 @@ MidwayTakes = (g : Seat) (ram : List ℕ) (native : NativeState) (k n : ℕ) (mi
 
 -- And where a run of the board from there is in the middle of that step, so is the turn.
 abbrev pub MidwayWithin : Type 0
-MidwayWithin = (g : Seat) (ram : List ℕ) (native : NativeState) (k n : ℕ) (mid : Seat) (now : List ℕ)
-    (counts : NativeState) → (m : Midway g ram native k n mid now counts)
-    → (seat : Seat) (next : List ℕ) (later : NativeState)
-    → Midway (unbegun mid m.turn) now counts 0 0 seat next later → Midway g ram native k n seat next later
+MidwayWithin = (g : Seat) (ram : List ℕ) (native : NativeState) (k n left : ℕ) (mid : Seat) (now : List ℕ)
+    (counts : NativeState) → (m : Midway g ram native k n left mid now counts)
+    → (seat : Seat) (next : List ℕ) (later : NativeState) (more : ℕ)
+    → Midway (unbegun mid m.turn) now counts 0 0 more seat next later
+    → Midway g ram native k n (left + more) seat next later

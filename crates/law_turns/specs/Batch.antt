@@ -81,6 +81,8 @@ pub record Batch (x : Site) (script : Entries) (n : ℕ) (r : Ran) (t : Turned) 
   -- the guest's steps so far: all retired
   pub tally : (turn_of script retired t).tally ≡ record t.tally { retired = t.tally.retired + retired }
   pub marked : (turn_of script retired t).marks ≡ t.marks ++ marks
+  -- none of them is left by an exception
+  pub unleft : (turn_of script retired t).exceptions ≡ t.exceptions
   pub counted : after.native.retired ≡ r.native.retired + retired
   pub sum : after.native.trail ≡ trail r.native.trail marks
   pub all : AllRetired script retired t.guest

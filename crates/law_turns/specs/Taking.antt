@@ -125,7 +125,7 @@ pub record IsLeft (g : Seat) (ram : List ℕ) (native : NativeState) (k : ℕ) (
   pub again : let mid = retired_seat g retired retired after.before begun in
       let w = bus_side (guested_on mid after.machine.world.ram) in
       Fine g.size w → (h : Guest) → refilled_at w (read_by_frame (space_of mid.cpu) frame) ≡ Some h
-      → Midway g ram native retired 0 mid after.machine.world.ram after.native × (begun_again mid.cpu w ≡ Some h)
+      → Midway g ram native retired 0 1 mid after.machine.world.ram after.native × (begun_again mid.cpu w ≡ Some h)
       × (class_of_vector vector ≡ class_at_first (level_of begun) mid.cpu w)
       × (run guest_bus (rest_by_frame vector (frame_access frame) (level_of begun) mid.cpu
       (handed_by after.machine.cpu.regs frame)) w ≡ run guest_bus (step_of (level_of begun) mid.cpu) w)

@@ -17,7 +17,7 @@ use Rattle.def_guests.specs.declared.limits.TheConstants.{MONITOR_BYTES}
 use Rattle.def_guests.specs.Seats.{Seat, machine_on, turned_on}
 use Rattle.def_guests.specs.Seats.{end_of as seat_end}
 use Rattle.def_guests.specs.Turns.{Tally, Turned, exits, prepared, steps_in, turn_of}
-use Rattle.def_guests.proofs.Counts.{counts_are_steps}
+use Rattle.def_guests.proofs.Counts.{counts_are_steps, exceptions_are_bounded}
 use Rattle.vm_guest.specs.Session.{GuestAtStart, SessionAtStart}
 use Rattle.vm_guest.specs.Turns.{RisesByAtMost}
 use Rattle.vm_slices.specs.Fit.{Fits, need_of, share_of}
@@ -45,17 +45,17 @@ use Rattle.mb_program.proofs.ShowLemmas.{fitting}
 
 -- with the disk of its session
 pub begins : (g h : Seat) (ram : List ℕ) (s : GuestAtStart) (image : Contents) (disk : Option DiskState) (size : ℕ)
-    → turned_on g ram [] ≡ prepared (diskless image) size → h ≡ with_disk disk g → image ≡ s.opening.image → disk ≡ s.opening.disk
-    → size ≡ s.ram → turned_on h ram [] ≡ prepared s.opening s.ram
+    → turned_on g ram [] 0 ≡ prepared (diskless image) size → h ≡ with_disk disk g → image ≡ s.opening.image → disk ≡ s.opening.disk
+    → size ≡ s.ram → turned_on h ram [] 0 ≡ prepared s.opening s.ram
 begins g h ram s image disk size starts has image_is disk_is size_is =
-    ap (λ (x : Seat). turned_on x ram []) has
+    ap (λ (x : Seat). turned_on x ram [] 0) has
     ∙ starts_with g ram image disk size starts
     ∙ ap (λ (i : Contents). prepared (record { image = i; disk = disk }) size) image_is
     ∙ ap (λ (d : Option DiskState). prepared (record { image = s.opening.image; disk = d }) size) disk_is
     ∙ ap (λ (n : ℕ). prepared s.opening n) size_is
 
 begins_machine : (s : GuestAtStart) (lone : LoneGuest) → IsAtStart s lone
-    → (turned_on lone.guest lone.board.world.ram []).guest.machine ≡ start rule_k s.opening s.ram
+    → (turned_on lone.guest lone.board.world.ram [] 0).guest.machine ≡ start rule_k s.opening s.ram
 begins_machine s lone at = ap (λ (t : Turned). t.guest.machine) at.turned
 
 pub begins_steps : (s : GuestAtStart) (lone : LoneGuest) → IsAtStart s lone → lone.guest.steps ≡ 0
@@ -126,15 +126,15 @@ end_so s lone native orders at =
 -- the steps that it has taken are those of the guest alone
 taken_so : (s : GuestAtStart) (lone t : LoneGuest) (native native_after : NativeState) (orders : List Command) (at : IsAtStart s lone)
     (come : HasCome (scene_of lone native) (end_of (scene_of lone native) lone.bound orders) (scene_of t native_after))
-    → turned_on t.guest t.board.world.ram come.marks ≡ turn_of s.script (steps_debugged s orders) (prepared s.opening s.ram)
+    → turned_on t.guest t.board.world.ram come.marks come.left_times ≡ turn_of s.script (steps_debugged s orders) (prepared s.opening s.ram)
 taken_so s lone t native native_after orders at come =
     let end = end_of (scene_of lone native) lone.bound orders in
     let same = end_so s lone native orders at in
     let none = begins_steps s lone at in
     let all : end - lone.guest.steps ≡ steps_debugged s orders = omega (arith, same, none) in
     come.turned
-    ∙ ap (λ (script : Entries). turn_of script (end - lone.guest.steps) (turned_on lone.guest lone.board.world.ram [])) at.script
-    ∙ ap (λ (n : ℕ). turn_of s.script n (turned_on lone.guest lone.board.world.ram [])) all
+    ∙ ap (λ (script : Entries). turn_of script (end - lone.guest.steps) (turned_on lone.guest lone.board.world.ram [] 0)) at.script
+    ∙ ap (λ (n : ℕ). turn_of s.script n (turned_on lone.guest lone.board.world.ram [] 0)) all
     ∙ ap (λ (x : Turned). turn_of s.script (steps_debugged s orders) x) at.turned
 
 single : (f : Tally → ℕ) (t : Tally) → sum_by f (t ∷ []) ≡ f t
@@ -150,21 +150,22 @@ counted_so s lone t native native_after orders at come rises =
     let tally : t.guest.tally ≡ tally_by last = ap (λ (x : Turned). x.tally) taken in
     let none = begins_steps s lone at in
     let no_retired : lone.guest.tally.retired ≡ 0 = ap (λ (x : Turned). x.tally.retired) at.turned in
-    let no_exits : exits lone.guest.tally ≡ 0 = ap (λ (x : Turned). exits x.tally) at.turned in
     let steps : t.guest.steps ≡ steps_in (tally_by last) =
     ap (λ (x : Turned). x.guest.machine.steps) taken ∙ sym (counts_are_steps s.opening s.script s.ram (steps_debugged s orders)) in
     let retired_is = ap (λ (x : Tally). x.retired) tally in
-    let exits_are = ap (λ (x : Tally). exits x) tally in
     let retired_sum = single (λ (x : Tally). x.retired) (tally_by last) in
     let exits_sum = single exits (tally_by last) in
     let steps_sum = single steps_in (tally_by last) in
     let retired = come.retired in
-    let left = come.exceptions in
+    let left : native_after.exceptions ≡ native.exceptions + (turn_of s.script (steps_debugged s orders) (prepared s.opening s.ram)).exceptions =
+    come.exceptions ∙ ap (λ (x : Turned). native.exceptions + x.exceptions) taken in
+    let least = (exceptions_are_bounded s.script (steps_debugged s orders) (prepared s.opening s.ram)).least in
     let most = rises.1 in
     record {
       retired = omega (arith, retired, no_retired, retired_is, retired_sum);
       trail = come.trail ∙ ap (λ (x : Turned). trail native.trail x.marks) taken;
-      exceptions = omega (arith, left, no_exits, exits_are, exits_sum);
+      exceptions = left;
+      least = omega (arith, left, least, exits_sum);
       most = omega (arith, most, none, steps, steps_sum);
     }
 

@@ -29,7 +29,7 @@ use Rattle.mb_files.specs.declared.fault.FileWhy.{FileWhy}
 use Rattle.mb_files.specs.declared.files.TheConstants.{MOST_SNAPSHOT_BYTES}
 use Rattle.mb_files.proofs.SnapshotLemmas.{said_is_known}
 use Rattle.mb_program.specs.Headline.{alone, machine_text, texts_from}
-use Rattle.mb_program.specs.Direct.{counts_line}
+use Rattle.mb_program.specs.Direct.{counts_line, steps_hosted}
 use Rattle.mb_program.specs.Shown.{Shown}
 use Rattle.mb_program.specs.Saves.{IsSavedText, all_cut_to, cut_to, gone_on_shown, longer, resume_shown, resumed_guest, seat_of, session_of, shown_alone, tally_since}
 use Rattle.mb_program.proofs.SaveLemmas.{start_size}
@@ -97,7 +97,7 @@ shows text tallies slice members = record {
   text = text;
   lines = texts_from counts_line 1 tallies;
   status = 0;
-  steps = Some (record { tallies = tallies; marks = (after_rounds slice members).marks });
+  steps = Some (steps_hosted tallies (after_rounds slice members));
 }
 
 same_shown : (more : ℕ) (s : SessionAtStart) (guests : List GuestAtStart) → All IsGuest guests → All CanBeTold (map shown_alone guests)

@@ -29,7 +29,7 @@ use Rattle.vm_snapshot.specs.Inputs.{MOST}
 use Rattle.vm_snapshot.specs.Plans.{Plan, guest_of}
 use Rattle.vm_snapshot.specs.declared.plan.SnapGuest.{SnapGuest}
 use Rattle.mb_files.specs.Snapshots.{IsSaid}
-use Rattle.mb_program.specs.Direct.{AreCarriedOut}
+use Rattle.mb_program.specs.Direct.{AreCarriedOut, steps_hosted}
 use Rattle.mb_program.specs.Saves.{resumed_guest, resumed_guests, seat_of, session_of}
 use Rattle.mb_program.specs.Saved.{CanAllBecome, CanBecome, HasNoDisk, Left, all_become, become, disked, left_of, left_said}
 use Rattle.mb_program.specs.declared.resumed.LeftMachine.{LeftMachine}
@@ -299,16 +299,14 @@ all_taken more (g ∷ guests) =
 
 pub counted_on_so : (more : ℕ) (plan : Plan) (slice : ℕ) (before after : List Member) (native native_after : NativeState)
     → before ≡ resumed_guests more plan → slice ≡ plan.slice → machines_of after ≡ map machine_at_end before
-    → tallies_of after ≡ map tally_at_end before → AreCounted before after (after_rounds slice before).marks native native_after
-    → AreCarriedOut (record {
-      tallies = map tally_at_end (resumed_guests more plan);
-      marks = (after_rounds plan.slice (resumed_guests more plan)).marks;
-    }) native native_after
+    → tallies_of after ≡ map tally_at_end before → AreCounted before after (after_rounds slice before).marks
+    (after_rounds slice before).exceptions native native_after
+    → AreCarriedOut (steps_hosted (map tally_at_end (resumed_guests more plan)) (after_rounds plan.slice (resumed_guests more plan))) native native_after
 counted_on_so more plan slice before after native native_after begun same run ended counted =
     let members = resumed_guests more plan in
     let taken : steps_by after ≡ steps_by members + sum_by steps_in (map tally_at_end members) =
     steps_sum after ∙ ap (λ ms. sum_by (λ (m : Machine). m.steps) ms) (run ∙ ap (λ ms. map machine_at_end ms) begun) ∙ all_taken more plan.guests in
-    let here = subst (λ ms. AreCounted ms after (after_rounds slice ms).marks native native_after) begun counted in
-    let marked = subst (λ n. AreCounted members after (after_rounds n members).marks native native_after) same here in
-    carried_by members after (map tally_at_end members) (after_rounds plan.slice members).marks native native_after
+    let here = subst (λ ms. AreCounted ms after (after_rounds slice ms).marks (after_rounds slice ms).exceptions native native_after) begun counted in
+    let marked = subst (λ n. AreCounted members after (after_rounds n members).marks (after_rounds n members).exceptions native native_after) same here in
+    carried_by members after (map tally_at_end members) (after_rounds plan.slice members) native native_after
     (none_retired more plan.guests) (none_left more plan.guests) taken (ended ∙ ap (λ ms. map tally_at_end ms) begun) marked

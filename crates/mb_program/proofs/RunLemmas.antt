@@ -75,7 +75,7 @@ pub scripts_so : (guests : List GuestAtStart) (turns : List Turn) (slice : ℕ) 
     → turned ≡ each_given turns 1 before → after ≡ (after_rounds slice turned).members
     → scripts_of after ≡ map (λ (g : GuestAtStart). g.script) guests
 scripts_so guests turns slice before turned after begun given is =
-    ap scripts_of is ∙ scripts_rounds slice (left_of_all turned) (record { members = turned; marks = [] }) ∙ ap scripts_of given
+    ap scripts_of is ∙ scripts_rounds slice (left_of_all turned) (record { members = turned; marks = []; exceptions = 0 }) ∙ ap scripts_of given
     ∙ scripts_given turns 1 before ∙ ap scripts_of begun ∙ scripts_begun guests
 
 -- ---- what is counted
@@ -145,15 +145,24 @@ marked_so s slice before turned begun same is =
     ∙ ap (λ (n : ℕ). (after_order s.order before).marks ++ (after_rounds n (after_order s.order before).members).marks) same
     ∙ ap (λ ms. (after_order s.order ms).marks ++ (after_rounds s.session.slice (after_order s.order ms).members).marks) begun
 
+left_so : (s : Ordered) (slice : ℕ) (before turned : List Member) → before ≡ map member_at_start s.session.guests → slice ≡ s.session.slice
+    → turned ≡ (after_order s.order before).members
+    → (after_order s.order before).exceptions + (after_rounds slice turned).exceptions ≡ (hosted_by s).exceptions
+left_so s slice before turned begun same is =
+    ap (λ ms. (after_order s.order before).exceptions + (after_rounds slice ms).exceptions) is
+    ∙ ap (λ (n : ℕ). (after_order s.order before).exceptions + (after_rounds n (after_order s.order before).members).exceptions) same
+    ∙ ap (λ ms. (after_order s.order ms).exceptions + (after_rounds s.session.slice (after_order s.order ms).members).exceptions) begun
+
 -- from the start of all guests to their end
 pub carried_so : (s : Ordered) (slice : ℕ) (before turned after : List Member) (native native_turned native_after : NativeState)
     → before ≡ map member_at_start s.session.guests → slice ≡ s.session.slice → tallies_of after ≡ map tally_at_end before
     → machines_of after ≡ map machine_at_end before → turned ≡ (after_order s.order before).members → AreCounted before turned
-    (after_order s.order before).marks native native_turned
-    → AreCounted turned after (after_rounds slice turned).marks native_turned native_after → CarriedOut s native native_after
+    (after_order s.order before).marks (after_order s.order before).exceptions native native_turned
+    → AreCounted turned after (after_rounds slice turned).marks (after_rounds slice turned).exceptions native_turned native_after
+    → CarriedOut s native native_after
 carried_so s slice before turned after native native_turned native_after begun same ended run is first counted =
     let guests = s.session.guests in
-    let both = counted_on before turned after _ _ native native_turned native_after first counted in
+    let both = counted_on before turned after _ _ _ _ native native_turned native_after first counted in
     let tallies = tallied_so guests before after begun ended in
     let none : retired_by before ≡ 0 = ap (λ ms. retired_by ms) begun ∙ none_retired guests in
     let stayed : exits_by before ≡ 0 = ap (λ ms. exits_by ms) begun ∙ none_left guests in
@@ -164,12 +173,13 @@ carried_so s slice before turned after native native_turned native_after begun s
     let taken : steps_by after ≡ sum_by steps_in (tallies_by guests) =
     steps_sum after ∙ ap (λ ms. sum_by (λ (m : Machine). m.steps) ms) (run ∙ ap (λ ms. map machine_at_end ms) begun) ∙ runs_counted guests in
     let steps = both.retired in
-    let faults = both.exceptions in
+    let faults = both.least in
     let most = both.most in
     record {
       retired = omega (arith, steps, none, sum);
       trail = both.trail ∙ ap (λ marks. trail native.trail marks) (marked_so s slice before turned begun same is);
-      exceptions = omega (arith, faults, stayed, left);
+      exceptions = both.exceptions ∙ ap (λ (n : ℕ). native.exceptions + n) (left_so s slice before turned begun same is);
+      least = omega (arith, faults, stayed, left);
       most = omega (arith, most, still, taken);
     }
 

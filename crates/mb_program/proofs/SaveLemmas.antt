@@ -6,7 +6,6 @@ use Rattle.std.proofs.lemmas.Option.{slice_get-get_or}
 use Rattle.std.proofs.lemmas.Bool.{cases_lt, eq-eqb, ne_eqb}
 use Rattle.std.proofs.lemmas.List.Elements.{All-cons, All-head, All-nil, All-tail}
 use Rattle.std.proofs.lemmas.List.Sums.{sum_by-cons}
-use Rattle.mb_instr.specs.declared.registers.Plain.{Plain}
 use Rattle.mb_model.specs.declared.kept.Kept.{Kept}
 use Rattle.mb_model.specs.Keeping.{list_of, rule_k}
 use Rattle.mb_model.specs.Seen.{Seen}
@@ -16,7 +15,7 @@ use Rattle.mb_devices.specs.Devices.{DeviceState}
 use Rattle.def_machine.specs.Machine.{Entries, Machine, reset_with, seen_machine, start}
 use Rattle.def_machine.proofs.Beneath.{runs_leave_the_size}
 use Rattle.def_runs.specs.Native.{NativeState}
-use Rattle.def_guests.specs.Rounds.{Member, closed_by, left, opened}
+use Rattle.def_guests.specs.Rounds.{Hosted, Member, closed_by, left, opened}
 use Rattle.def_guests.specs.Turns.{Tally, exits, prepared, steps_in, turn_of}
 use Rattle.def_guests.proofs.ByRule.{guests_run_alone}
 use Rattle.def_guests.proofs.Counts.{counts_are_steps}
@@ -30,7 +29,7 @@ use Rattle.vm_disk.specs.Disk.{DiskState}
 use Rattle.vm_snapshot.specs.Shown.{ShownGuest, guests_text, head_text, snapshot_text}
 use Rattle.vm_snapshot.specs.Texts.{guest_text}
 use Rattle.mb_program.specs.Headline.{texts_from}
-use Rattle.mb_program.specs.Direct.{AreCarriedOut, tallies_by, tally_by}
+use Rattle.mb_program.specs.Direct.{AreCarriedOut, steps_hosted, tallies_by, tally_by}
 use Rattle.mb_program.specs.Saves.{all_cut_to, cut_to, shown_alone, shown_of, turn_each}
 use Rattle.mb_program.specs.Saved.{AreWhole, IsWhole, kept_by, shown_by, shown_text}
 use Rattle.mb_program.proofs.RunLemmas.{all_left, exits_sum, none_left, none_retired, none_taken, retired_sum}
@@ -156,21 +155,22 @@ whole_so steps guests after all is = subst AreWhole (sym is) (whole_all steps gu
 -- ---- what is counted
 
 -- Guests of which nothing was counted before: these tallies are of the steps that they have taken since.
-pub carried_by : (before after : List Member) (tallies : List Tally) (marks : List Plain) (native native_after : NativeState)
+pub carried_by : (before after : List Member) (tallies : List Tally) (hosted : Hosted) (native native_after : NativeState)
     → retired_by before ≡ 0 → exits_by before ≡ 0 → steps_by after ≡ steps_by before + sum_by steps_in tallies → tallies_of after ≡ tallies
-    → AreCounted before after marks native native_after
-    → AreCarriedOut (record { tallies = tallies; marks = marks }) native native_after
-carried_by before after tallies marks native native_after none stayed taken are counted =
+    → AreCounted before after hosted.marks hosted.exceptions native native_after
+    → AreCarriedOut (steps_hosted tallies hosted) native native_after
+carried_by before after tallies hosted native native_after none stayed taken are counted =
     let sum : retired_by after ≡ sum_by (λ (t : Tally). t.retired) tallies =
     retired_sum after ∙ ap (λ ts. sum_by (λ (t : Tally). t.retired) ts) are in
     let left : exits_by after ≡ sum_by exits tallies = exits_sum after ∙ ap (λ ts. sum_by exits ts) are in
     let steps = counted.retired in
-    let faults = counted.exceptions in
+    let faults = counted.least in
     let most = counted.most in
     record {
       retired = omega (arith, steps, none, sum);
       trail = counted.trail;
-      exceptions = omega (arith, faults, stayed, left);
+      exceptions = counted.exceptions;
+      least = omega (arith, faults, stayed, left);
       most = omega (arith, most, taken);
     }
 
@@ -188,19 +188,15 @@ taken_all steps (g ∷ guests) =
 
 pub counted_so : (steps : ℕ) (guests : List GuestAtStart) (before after : List Member) (native native_after : NativeState)
     → before ≡ map member_at_start guests → after ≡ map (stopped steps) guests
-    → AreCounted before after (after_order (turn_each 1 steps guests) before).marks native native_after
-    → AreCarriedOut (record {
-      tallies = tallies_by (all_cut_to steps guests);
-      marks = (after_order (turn_each 1 steps guests) (map member_at_start guests)).marks;
-    }) native native_after
+    → AreCounted before after (after_order (turn_each 1 steps guests) before).marks (after_order (turn_each 1 steps guests) before).exceptions
+    native native_after
+    → AreCarriedOut (steps_hosted (tallies_by (all_cut_to steps guests)) (after_order (turn_each 1 steps guests) (map member_at_start guests)))
+    native native_after
 counted_so steps guests before after native native_after begun is counted =
     let still : steps_by before ≡ 0 = ap steps_by begun ∙ none_taken guests in
     let taken : steps_by after ≡ sum_by steps_in (tallies_by (all_cut_to steps guests)) = ap steps_by is ∙ taken_all steps guests in
-    subst (λ ms. AreCarriedOut (record {
-      tallies = tallies_by (all_cut_to steps guests);
-      marks = (after_order (turn_each 1 steps guests) ms).marks;
-    }) native native_after) begun
-    (carried_by before after (tallies_by (all_cut_to steps guests)) (after_order (turn_each 1 steps guests) before).marks native native_after
+    subst (λ ms. AreCarriedOut (steps_hosted (tallies_by (all_cut_to steps guests)) (after_order (turn_each 1 steps guests) ms)) native native_after) begun
+    (carried_by before after (tallies_by (all_cut_to steps guests)) (after_order (turn_each 1 steps guests) before) native native_after
     (ap retired_by begun ∙ none_retired guests) (ap exits_by begun ∙ none_left guests) (omega (arith, still, taken))
     (ap tallies_of is ∙ tallied_all steps guests) counted)
 

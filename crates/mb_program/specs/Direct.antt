@@ -45,35 +45,40 @@ counts_line i t = codes "guest " ++ decimal i
 -- ---- what the board carries out
 
 -- all guests after the turns that are named and then their rounds, with the marks of their retired steps, one turn
--- after the other
+-- after the other, and the exceptions of all
 abbrev pub hosted_by : Ordered → Hosted
 hosted_by s = after_session s.order s.session.slice (map member_at_start s.session.guests)
 
--- The steps of guests: how many of each class each of them took, and the marks of the retired ones, in the order in
--- which they were taken.
+-- The steps of guests: how many of each class each of them took, the marks of the retired ones, in the order in which
+-- they were taken, and the exceptions by which a board leaves them.
 pub record Steps : Type 0 where
   pub tallies : List Tally
   pub marks : List Plain
+  pub exceptions : ℕ
+
+-- those of guests that a host has run so, and of which so much was counted
+abbrev pub steps_hosted : List Tally → Hosted → Steps
+steps_hosted tallies hosted = record { tallies = tallies; marks = hosted.marks; exceptions = hosted.exceptions }
 
 -- those of all guests of a session
 abbrev pub steps_of_all : Ordered → Steps
-steps_of_all s = record { tallies = tallies_by s.session.guests; marks = (hosted_by s).marks }
+steps_of_all s = steps_hosted (tallies_by s.session.guests) (hosted_by s)
 
 -- those of one guest alone, from its start
 abbrev pub steps_alone : GuestAtStart → Steps
-steps_alone guest = record {
-  tallies = tally_by guest ∷ [];
-  marks = (turn_of guest.script guest.steps (prepared guest.opening guest.ram)).marks;
-}
+steps_alone guest = let turned = turn_of guest.script guest.steps (prepared guest.opening guest.ram) in
+    record { tallies = tally_by guest ∷ []; marks = turned.marks; exceptions = turned.exceptions }
 
 -- What is counted once these steps are taken.
 pub record AreCarriedOut (steps : Steps) (native native_after : NativeState) : Type 0 where
   -- The board has carried out each retired step of each guest, with its marks, and no other,
   pub retired : native_after.retired ≡ native.retired + sum_by (λ (t : Tally). t.retired) steps.tallies
   pub trail : native_after.trail ≡ trail native.trail steps.marks
-  -- and has left each that is privileged, trapped or denied by one exception or more.
-  pub exceptions : native.exceptions + sum_by exits steps.tallies ≤ native_after.exceptions
-  -- Of exceptions there are no more than 32 for each step.
+  -- and has left steps by exactly so many exceptions:
+  pub exceptions : native_after.exceptions ≡ native.exceptions + steps.exceptions
+  -- one or more for each that is privileged, trapped or denied,
+  pub least : native.exceptions + sum_by exits steps.tallies ≤ native_after.exceptions
+  -- and no more than 32 for each step.
   pub most : native_after.exceptions ≤ native.exceptions + 32 * sum_by steps_in steps.tallies
 
 -- all guests of a session have run

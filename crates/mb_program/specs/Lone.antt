@@ -20,7 +20,7 @@ end_of s bound orders = (debugged (course_of s) bound orders (debugging_of s [])
 
 -- It is this guest of a session, at its start.
 pub record IsAtStart (guest : GuestAtStart) (lone : LoneGuest) : Type 0 where
-  pub turned : turned_on lone.guest lone.board.world.ram [] ≡ prepared guest.opening guest.ram
+  pub turned : turned_on lone.guest lone.board.world.ram [] 0 ≡ prepared guest.opening guest.ram
   pub script : lone.guest.script ≡ guest.script
   pub seated : IsSeated lone.guest lone.board.world.ram
   pub bound : lone.bound ≡ guest.steps

@@ -17,7 +17,7 @@ use Rattle.vm_snapshot.specs.declared.plan.SnapGuest.{SnapGuest}
 use Rattle.mb_words.specs.Words.{Text}
 use Rattle.mb_files.specs.declared.files.TheConstants.{MOST_SNAPSHOT_BYTES}
 use Rattle.mb_program.specs.Headline.{alone, machine_text, texts_from}
-use Rattle.mb_program.specs.Direct.{bounded, counts_line, tallies_by}
+use Rattle.mb_program.specs.Direct.{bounded, counts_line, steps_hosted, tallies_by}
 use Rattle.mb_program.specs.Shown.{Shown}
 
 -- ---- save
@@ -50,10 +50,8 @@ save_shown steps s = record {
   text = snapshot_text (s.board / 1024) s.slice (map shown_alone (all_cut_to steps s.guests));
   lines = [];
   status = 0;
-  steps = Some (record {
-    tallies = tallies_by (all_cut_to steps s.guests);
-    marks = (after_order (turn_each 1 steps s.guests) (map member_at_start s.guests)).marks;
-  });
+  steps = Some (steps_hosted (tallies_by (all_cut_to steps s.guests))
+      (after_order (turn_each 1 steps s.guests) (map member_at_start s.guests)));
 }
 
 -- ---- resume
@@ -86,10 +84,8 @@ resume_shown more plan = record {
   text = texts_from machine_text 1 (map machine_at_end (resumed_guests more plan));
   lines = texts_from counts_line 1 (map tally_at_end (resumed_guests more plan));
   status = 0;
-  steps = Some (record {
-    tallies = map tally_at_end (resumed_guests more plan);
-    marks = (after_rounds plan.slice (resumed_guests more plan)).marks;
-  });
+  steps = Some (steps_hosted (map tally_at_end (resumed_guests more plan))
+      (after_rounds plan.slice (resumed_guests more plan)));
 }
 
 -- ---- what was saved goes on
@@ -113,11 +109,8 @@ gone_on_shown more slice guests = record {
   text = texts_from machine_text 1 (map (alone rule_k) (map (longer more) guests));
   lines = texts_from counts_line 1 (map (tally_since more) guests);
   status = 0;
-  steps = Some (record {
-    tallies = map (tally_since more) guests;
-    marks = (after_rounds slice
-        (map (λ (guest : GuestAtStart). resumed guest.script more (alone rule_k guest)) guests)).marks;
-  });
+  steps = Some (steps_hosted (map (tally_since more) guests) (after_rounds slice
+      (map (λ (guest : GuestAtStart). resumed guest.script more (alone rule_k guest)) guests)));
 }
 
 -- A text that `save` writes of a session, which fits on its board, and of which the grammar of snapshots holds.

@@ -29,10 +29,11 @@ ones_are_a_turn (suc n) s t seated (u, first, rest) =
     (takes_add 1 n s u t first (ones_are_a_turn n u t first.seated rest))
 
 -- the same turn, where its steps come to the same
-as_many : (n k : ℕ) (s t : Scene) → turn_of s.guest.script n (turned_on s.guest s.ram []) ≡ turn_of s.guest.script k (turned_on s.guest s.ram [])
+as_many : (n k : ℕ) (s t : Scene) → turn_of s.guest.script n (turned_on s.guest s.ram [] 0) ≡ turn_of s.guest.script k (turned_on s.guest s.ram [] 0)
     → Takes n s t → Takes k s t
 as_many n k s t same takes = record {
   marks = takes.marks;
+  left_times = takes.left_times;
   turned = takes.turned ∙ same;
   same = takes.same;
   seated = takes.seated;
@@ -50,13 +51,13 @@ ended script j n x few still =
 
 pub turns_end_there : TurnsEndThere
 turns_end_there j n s t few still takes =
-    as_many n j s t (ended s.guest.script j n (turned_on s.guest s.ram []) few still) takes
+    as_many n j s t (ended s.guest.script j n (turned_on s.guest s.ram [] 0) few still) takes
 
 -- ---- how far a guest has come
 
 taken_machine : (n : ℕ) (s t : Scene) → Takes n s t → machine_at t ≡ run_of rule_k s.guest.script n (machine_at s)
 taken_machine n s t takes =
-    ap (λ (u : Turned). u.guest.machine) takes.turned ∙ turns_by_rule s.guest.script n (turned_on s.guest s.ram [])
+    ap (λ (u : Turned). u.guest.machine) takes.turned ∙ turns_by_rule s.guest.script n (turned_on s.guest s.ram [] 0)
 
 -- one that takes more has taken all of them
 all_taken : (n : ℕ) (s t : Scene) → Takes n s t → takes_steps t.guest.state ≡ true → t.guest.steps ≡ s.guest.steps + n
@@ -73,14 +74,14 @@ none_taken n s t takes still =
 -- it has also taken any more steps
 more_taken : (n k : ℕ) (s t : Scene) → Takes n s t → takes_steps t.guest.state ≡ false → n ≤ k → Takes k s t
 more_taken n k s t takes still few =
-    let x = turned_on s.guest s.ram [] in
+    let x = turned_on s.guest s.ram [] 0 in
     as_many n k s t
     (sym (ended s.guest.script n k x few (ap (λ (u : Turned). takes_steps u.guest.machine.state) (sym takes.turned) ∙ still))) takes
 
 -- and before that none
 no_more_taken : (n : ℕ) (s t : Scene) → Takes n s t → takes_steps s.guest.state ≡ false → Takes 0 s t
 no_more_taken n s t takes still =
-    let x = turned_on s.guest s.ram [] in
+    let x = turned_on s.guest s.ram [] 0 in
     as_many n 0 s t (halted_turn s.guest.script n x still ∙ sym (nothing_turned s.guest.script x)) takes
 
 not_gone : (s : Scene) → IsSeated s.guest s.ram → HasCome s s.guest.steps s
@@ -121,8 +122,8 @@ goes_at_once n s t taken =
       | inl holds ↦
           let m = course end in
           let still : takes_steps m.state ≡ false = ends_still m.state m.cpu.regs.pc holds in
-          let there : takes_steps (turn_of s.guest.script (end - from) (turned_on s.guest s.ram [])).guest.machine.state ≡ false =
-          ap (λ (x : Machine). takes_steps x.state) (turns_by_rule s.guest.script (end - from) (turned_on s.guest s.ram [])) ∙ still in
+          let there : takes_steps (turn_of s.guest.script (end - from) (turned_on s.guest s.ram [] 0)).guest.machine.state ≡ false =
+          ap (λ (x : Machine). takes_steps x.state) (turns_by_rule s.guest.script (end - from) (turned_on s.guest s.ram [] 0)) ∙ still in
           turns_end_there (end - from) (from + n - from) s t (omega arith) there all
       | inr e ↦ subst (λ (k : ℕ). HasCome s k t) (sym e) all
     ]

@@ -59,5 +59,5 @@ OnesAreATurn = (n : ℕ) (s t : Scene) → IsSeated s.guest s.ram → TakeOnes n
 -- A turn is no longer than to where the guest halts or is switched off.
 abbrev pub TurnsEndThere : Type 0
 TurnsEndThere = (j n : ℕ) (s t : Scene) → j ≤ n
-    → takes_steps (turn_of s.guest.script j (turned_on s.guest s.ram [])).guest.machine.state ≡ false
+    → takes_steps (turn_of s.guest.script j (turned_on s.guest s.ram [] 0)).guest.machine.state ≡ false
     → Takes n s t → Takes j s t

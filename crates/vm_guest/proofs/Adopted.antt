@@ -1,5 +1,6 @@
 -- What a guest adopts.
-use Rattle.std.proofs.Common.{◌≡◌, ◌∙◌, ℕ, zero, suc, ◌+◌, ◌<◌, ◌≤◌, Bool, List, [], ◌∷◌, length, take, drop, get_or, refl, ap, sym, subst, false, inl, inr, arith}
+use Rattle.std.proofs.Common.{◌≡◌, ◌∙◌, ℕ, zero, suc, ◌+◌, ◌<◌, ◌≤◌, Bool, List, [], ◌∷◌, length, take, drop, get_or, refl, ap, sym, subst, false, inl, inr}
+use Rattle.std.proofs.Common.{arith}
 use Rattle.std.specs.Prelude.{All, Option, Some, None, is_some, nat_le, ◌||◌}
 use Rattle.std.specs.List.{list_any}
 use Rattle.std.proofs.lemmas.Bool.{cases_Bool}
@@ -205,6 +206,7 @@ with_parts cpu ram mmu devices kept steps state shadow tally = record {
   };
   tally = tally;
   marks = [];
+  exceptions = 0;
 }
 
 -- the parts are the saved ones
@@ -222,7 +224,7 @@ pub adopted_begins : (g : Seat) (x y : List ℕ) (disk : Option DiskState) (save
     (cpu : Cpu) (mmu : Mmu) (devices : DeviceState) (kept : List Kept) (steps : ℕ) (state : RunState) (tally : Tally)
     → AreSaved disk saved cpu mmu devices kept steps state tally → saved.ram ≡ g.size
     → IsSeated g x → shadow_on g x ≡ nothing → LinesLaid g.base g.size (contents_of saved.lines) x y
-    → turned_on (adopted_seat g cpu mmu devices kept steps state tally) y [] ≡ beginning (machine_of disk saved)
+    → turned_on (adopted_seat g cpu mmu devices kept steps state tally) y [] 0 ≡ beginning (machine_of disk saved)
 adopted_begins g x y disk saved cpu mmu devices kept steps state tally are sized s none laid =
     let stay = tables_stay g x y s laid.within in
     let ram : part y g.base g.size ≡ ram_by saved.ram saved.lines =

@@ -60,7 +60,8 @@ pub awake_takes : (g : Seat) (ram : List ℕ) (native : NativeState) (k : ℕ) (
 awake_takes g ram native zero t some goes takes = absurd (let z : ⊥ = omega arith in z)
 awake_takes g ram native (suc n) t some goes takes = record {
   marks = takes.marks;
-  turned = takes.turned ∙ going_turn g.script n (turned_on (awake g) ram []) refl ∙ sym (going_turn g.script n (turned_on g ram []) goes);
+  left_times = takes.left_times;
+  turned = takes.turned ∙ going_turn g.script n (turned_on (awake g) ram [] 0) refl ∙ sym (going_turn g.script n (turned_on g ram [] 0) goes);
   same = record { script = takes.same.script; base = takes.same.base; size = takes.same.size; area = takes.same.area };
   seated = takes.seated;
   within = record { count = takes.within.count; below = takes.within.below; above = takes.within.above };

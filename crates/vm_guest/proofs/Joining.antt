@@ -53,12 +53,12 @@ module _ (s : Stage) (g : Seat) (ram : List ℕ) (all : AllSeated s) (seated : I
   ]
 
   pub joins : AllSeated (joined s g ram)
-      × ((i : ℕ) → i < s.count → turned_on ((joined s g ram).guests i) ram [] ≡ turned_on (s.guests i) s.ram [])
+      × ((i : ℕ) → i < s.count → turned_on ((joined s g ram).guests i) ram [] 0 ≡ turned_on (s.guests i) s.ram [] 0)
   joins = (
     record { seated = all_stand; apart = all_apart },
     λ i less.
         let a = left_alone i less in
-        ap (λ (h : Seat). turned_on h ram []) (older i less) ∙ turned_alone (s.guests i) s.ram ram [] a.machine a.tables,
+        ap (λ (h : Seat). turned_on h ram [] 0) (older i less) ∙ turned_alone (s.guests i) s.ram ram [] 0 a.machine a.tables,
   )
 
 pub guests_join : GuestsJoin

@@ -97,6 +97,7 @@ with_parts cpu devices kept shadow ram tally = record {
   };
   tally = tally;
   marks = [];
+  exceptions = 0;
 }
 
 pub starts : (base size : ℕ) (contents : Contents) (after : List ℕ) (cpu : Cpu) (devices : DeviceState) (kept : List Kept) (slots : Slots) (script : Entries)
@@ -104,7 +105,7 @@ pub starts : (base size : ℕ) (contents : Contents) (after : List ℕ) (cpu : C
     → 8 ≤ size → part after base size ≡ with_contents (zeros size) contents
     → cpu ≡ at_reset (number_at after base 4) (number_at after (base + 4) 4) → devices ≡ idle size → kept ≡ []
     → shadowed slots after ≡ nothing → tally ≡ no_steps
-    → turned_on (new_seat cpu devices kept slots script tally base size) after [] ≡ prepared (diskless contents) size
+    → turned_on (new_seat cpu devices kept slots script tally base size) after [] 0 ≡ prepared (diskless contents) size
 unfolding reset_with
 starts base size contents after cpu devices kept slots script tally big ram_is reset still free none uncounted =
     let first : number_at (part after base size) 0 4 ≡ number_at after base 4 =

@@ -90,8 +90,8 @@ module _ (g : Seat) (board : BoardState) (native : NativeState) (n : ℕ) (may :
       may.arrives may.due
 
   -- its run
-  batch : Batch (site_of g) g.script (suc n) (start_on g board native) (turned_on g board.world.ram []) (user_run (suc n) (start_on g board native))
-  batch = runs_are_batches (site_of g) g.script (suc n) (start_on g board native) (turned_on g board.world.ram []) refl ready.0 ready.1
+  batch : Batch (site_of g) g.script (suc n) (start_on g board native) (turned_on g board.world.ram [] 0) (user_run (suc n) (start_on g board native))
+  batch = runs_are_batches (site_of g) g.script (suc n) (start_on g board native) (turned_on g board.world.ram [] 0) refl ready.0 ready.1
       (λ some. may.running) (λ more. may.on (omega arith)) stretch
 
   -- the devices behind retired steps
@@ -107,7 +107,7 @@ module _ (g : Seat) (board : BoardState) (native : NativeState) (n : ℕ) (may :
   counted_batch counted =
       let r = start_on g board native in
       subst (λ (k : ℕ). AllRetired g.script k (guested_on g board.world.ram))
-      (is_counted (site_of g) (suc n) r (user_run (suc n) r) (turned_on g board.world.ram []) g counted batch).0 batch.all
+      (is_counted (site_of g) (suc n) r (user_run (suc n) r) (turned_on g board.world.ram [] 0) g counted batch).0 batch.all
 
   -- the guest as the board hands it back
   pub counted_takes : (u : Ran) → u ≡ run_on g board native (suc n) → u.end ≡ Counted → length u.machine.cpu.regs.a ≡ 7
@@ -154,7 +154,7 @@ module _ (g : Seat) (board : BoardState) (native : NativeState) (n : ℕ) (may :
       let r = start_on g board native in
       let after = user_run (suc n) r in
       let (all, done) =
-      is_counted (site_of g) (suc n) r after (turned_on g board.world.ram []) g (sym (ap (λ (x : Ran). x.end) is) ∙ counted) batch in (
+      is_counted (site_of g) (suc n) r after (turned_on g board.world.ram [] 0) g (sym (ap (λ (x : Ran). x.end) is) ∙ counted) batch in (
         ap (λ (x : Ran). x.native.retired) is ∙ batch.counted ∙ ap (λ (k : ℕ). native.retired + k) all,
         ap (λ (x : Ran). x.native.exceptions) is ∙ done.exceptions,
       )

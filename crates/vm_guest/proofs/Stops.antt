@@ -34,7 +34,7 @@ use Rattle.def_guests.specs.declared.limits.TheConstants.{MOST_REFILLS}
 use Rattle.def_guests.specs.Classes.{class_at_first}
 use Rattle.def_guests.specs.Exits.{is_refusal, class_of_vector, frame_access, handed_by, rest_by_frame}
 use Rattle.def_guests.specs.Turns.{Guested, Tally, Turned, bus_side, guest_begun, guest_later, step_class_at_first, refills_of_step}
-use Rattle.def_guests.specs.Turns.{tallied, with_refills, exits}
+use Rattle.def_guests.specs.Turns.{tallied, with_refills, exceptions_of}
 use Rattle.def_guests.specs.Turns.{marks_of, turn_of}
 use Rattle.def_guests.specs.Seats.{Seat, end_of, machine_on, board_entry, shadow_on, guested_on, turned_on, IsSame, IsSeated, OnlyWithin, Takes}
 use Rattle.def_guests.proofs.TurnLaws.{nothing_turned}
@@ -64,14 +64,14 @@ use Rattle.vm_guest.proofs.Seated.{begun_seated, only_within}
 -- what holds of the class of a step that the board leaves
 record Leaves (c : Class) : Type 0 where
   pub retired : (t : Tally) → (tallied c t).retired ≡ t.retired
-  pub exits : (t : Tally) → exits (tallied c t) ≡ exits t + 1
+  pub exceptions : (n : ℕ) → exceptions_of c n ≡ n + 1
   pub refills : (n : ℕ) (t : Tally) → with_refills c n t ≡ t
   pub marks : (before after : Cpu) → marks_of c before after ≡ []
 
 leaves_by : (a b : Bool) → Leaves (cond a class.Denied (cond b class.Privileged class.Trapped))
-leaves_by true b = record { retired = λ t. refl; exits = λ t. omega arith; refills = λ n t. refl; marks = λ x y. refl }
-leaves_by false true = record { retired = λ t. refl; exits = λ t. omega arith; refills = λ n t. refl; marks = λ x y. refl }
-leaves_by false false = record { retired = λ t. refl; exits = λ t. omega arith; refills = λ n t. refl; marks = λ x y. refl }
+leaves_by true b = record { retired = λ t. refl; exceptions = λ n. refl; refills = λ n t. refl; marks = λ x y. refl }
+leaves_by false true = record { retired = λ t. refl; exceptions = λ n. refl; refills = λ n t. refl; marks = λ x y. refl }
+leaves_by false false = record { retired = λ t. refl; exceptions = λ n. refl; refills = λ n t. refl; marks = λ x y. refl }
 
 leaves : (v : ℕ) → Leaves (class_of_vector v)
 leaves v = leaves_by (v == ACCESS_ERROR) (is_refusal v)
@@ -89,7 +89,7 @@ abbrev AgainAs : (g : Seat) (ram : List ℕ) (native : NativeState) (k : ℕ) (m
 AgainAs g ram native k m b counts v f =
     let w = bus_side (guested_on m b.world.ram) in
     let level = level_of m.devices in Fine m.size w → (h : Guest) → refilled_at w (read_by_frame (space_of m.cpu) f) ≡ Some h
-    → Midway g ram native k 0 m b.world.ram counts × (begun_again m.cpu w ≡ Some h) × (class_of_vector v ≡ class_at_first level m.cpu w)
+    → Midway g ram native k 0 1 m b.world.ram counts × (begun_again m.cpu w ≡ Some h) × (class_of_vector v ≡ class_at_first level m.cpu w)
     × (run guest_bus (rest_by_frame v (frame_access f) level m.cpu (handed_by b.cpu.regs f)) w ≡ run guest_bus (step_of level m.cpu) w)
 
 abbrev TurnAs : (g : Seat) (ram : List ℕ) (native : NativeState) (k : ℕ) (m : Seat) (b : BoardState) (counts : NativeState) (v : ℕ) (f : Frame) → Type 0
@@ -158,24 +158,24 @@ cases None = inl refl
 cases (Some h) = inr (h, refl)
 
 -- its devices, and what its shadow says
-devices_there : (g : Seat) (ram : List ℕ) (native : NativeState) (k n : ℕ) (mid : Seat) (now : List ℕ) (counts : NativeState)
-    (m : Midway g ram native k n mid now counts) → mid.devices ≡ (guest_begun g.script m.turn.guest).machine.world.devices
-devices_there g ram native k n mid now counts m =
+devices_there : (g : Seat) (ram : List ℕ) (native : NativeState) (k n left : ℕ) (mid : Seat) (now : List ℕ) (counts : NativeState)
+    (m : Midway g ram native k n left mid now counts) → mid.devices ≡ (guest_begun g.script m.turn.guest).machine.world.devices
+devices_there g ram native k n left mid now counts m =
     let b = guest_begun g.script m.turn.guest in
     let (fine, world, comes) = again_comes_to_the_same g.size (asked_of g.script b.machine) b.machine.cpu n (bus_side b) (bus_side (guested_on mid now))
     m.masked m.untraced m.registers m.fine m.begun in
     ap (λ (x : World). x.devices) world
 
-fine_there : (g : Seat) (ram : List ℕ) (native : NativeState) (k n : ℕ) (mid : Seat) (now : List ℕ) (counts : NativeState)
-    (m : Midway g ram native k n mid now counts) → Fine mid.size (bus_side (guested_on mid now))
-fine_there g ram native k n mid now counts m =
+fine_there : (g : Seat) (ram : List ℕ) (native : NativeState) (k n left : ℕ) (mid : Seat) (now : List ℕ) (counts : NativeState)
+    (m : Midway g ram native k n left mid now counts) → Fine mid.size (bus_side (guested_on mid now))
+fine_there g ram native k n left mid now counts m =
     let b = guest_begun g.script m.turn.guest in
     let (fine, world, comes) = again_comes_to_the_same g.size (asked_of g.script b.machine) b.machine.cpu n (bus_side b) (bus_side (guested_on mid now))
     m.masked m.untraced m.registers m.fine m.begun in
     subst (λ (size : ℕ). Fine size (bus_side (guested_on mid now))) (sym m.same.size) fine
 
 module _ (g s : Seat) (ram : List ℕ) (board : BoardState) (native counts : NativeState) (k n : ℕ) (underway : IsUnderway s)
-    (m : Midway g ram native k n (uncounted s) board.world.ram counts) where
+    (m : Midway g ram native k n n (uncounted s) board.world.ram counts) where
   abbrev mid : Seat
   mid = uncounted s
 
@@ -185,7 +185,7 @@ module _ (g s : Seat) (ram : List ℕ) (board : BoardState) (native counts : Nat
 
   begins : guest_begun s.script (guested_on from board.world.ram) ≡ guested_on mid board.world.ram
   begins = ap (λ (script : Entries). guest_begun script (guested_on from board.world.ram)) m.same.script
-      ∙ midway_begins g ram native k n mid board.world.ram counts m
+      ∙ midway_begins g ram native k n n mid board.world.ram counts m
 
   pub begun_is : begun_seat from ≡ s
   begun_is =
@@ -199,7 +199,7 @@ module _ (g s : Seat) (ram : List ℕ) (board : BoardState) (native counts : Nat
   attempts =
       let b = guest_begun g.script m.turn.guest in
       let cpu : s.cpu ≡ b.machine.cpu = ap (λ (x : Machine). x.cpu) m.opened in
-      let devices = devices_there g ram native k n mid board.world.ram counts m in
+      let devices = devices_there g ram native k n n mid board.world.ram counts m in
       let there : Attempts (level_of b.machine.world.devices) b.machine.cpu = record {
         masked = subst (λ (l : ℕ). rank l ≤ interrupt_mask b.machine.cpu)
             (asked_masked g.script (b.machine.steps + 1) b.machine.world.devices b.machine.cpu m.masked) m.masked;
@@ -211,7 +211,7 @@ module _ (g s : Seat) (ram : List ℕ) (board : BoardState) (native counts : Nat
   -- no abort arrives at it
   asked_level : asked_of s.script (machine_on mid board.world.ram) ≡ level_of s.devices
   asked_level = ap (λ (script : Entries). asked_of script (machine_on mid board.world.ram)) m.same.script
-      ∙ midway_level g ram native k n mid board.world.ram counts m
+      ∙ midway_level g ram native k n n mid board.world.ram counts m
 
   -- the board may run it
   pub resumes : IsSeated s board.world.ram → IsReady s board → AreBytes board.world.ram → length board.world.ram ≤ 2 ^ 32 → length s.cpu.regs.a ≡ 7
@@ -350,25 +350,26 @@ module _ (g s : Seat) (ram : List ℕ) (board : BoardState) (native counts : Nat
             let w = bus_side (guested_on mid board.world.ram) in
             let world = world_is f reads h some in
             let level = level_of s.devices in
-            let fine = subst (λ (x : Guest). Fine s.size x) (sym world) (fine_there g ram native k n mid board.world.ram counts m) in
+            let fine = subst (λ (x : Guest). Fine s.size x) (sym world) (fine_there g ram native k n n mid board.world.ram counts m) in
             let (i, again, class_by, whole) = base.again f reads fine h some in
             let out = leaves v in
             let class_is : class_of_vector v ≡ class_at_first level s.cpu w = class_by ∙ ap (class_at_first level s.cpu) world in
             let marks : i.turn.marks ≡ [] =
             ap (λ (t : Turned). t.marks)
-            (i.taken ∙ ap (λ (j : ℕ). turn_of s.script j (turned_on from board.world.ram [])) none_retired
-            ∙ nothing_turned s.script (turned_on from board.world.ram [])) in
+            (i.taken ∙ ap (λ (j : ℕ). turn_of s.script j (turned_on from board.world.ram [] 0)) none_retired
+            ∙ nothing_turned s.script (turned_on from board.world.ram [] 0)) in
             let steps : s.steps ≡ s.steps - 1 + 1 = (let some = underway.begun in omega arith) in
             let rest = run guest_bus (rest_by_frame v (frame_access f) level s.cpu (handed_by after.cpu.regs f)) (bus_side (guested_on s after.world.ram)) in
             let none = none_retired in
-            midway_ends g ram native k n mid board.world.ram counts m (inl full) seat next later
+            midway_ends g ram native k n n mid board.world.ram counts m (inl full) seat next later
             (means ∙ ap (λ (x : ℕ). ended_at x rest) steps
             ∙ ap (λ (x : Stepped × Guest). ended_at (s.steps - 1 + 1) x) (whole ∙ ap (λ (x : Guest). run guest_bus (step_of level s.cpu) x) world))
             (tally ∙ sym (out.refills n (tallied (class_of_vector v) s.tally)) ∙ ap (λ (c : Class). with_refills c n (tallied c s.tally)) class_is)
             same_mid seated (within_both next within)
             (let a = left.counts in let t = ap (λ (x : Tally). x.retired) tally ∙ out.retired s.tally in omega arith)
             (i.trail_is ∙ ap (trail counts.trail) (marks ∙ sym (out.marks s.cpu seat.cpu) ∙ ap (λ (c : Class). marks_of c s.cpu seat.cpu) class_is))
-            (let a = left.exceptions in let t = ap exits tally ∙ out.exits s.tally in omega arith)
+            (let a = left.exceptions in
+            let e = ap (λ (c : Class). exceptions_of c n) (sym class_is) ∙ out.exceptions n in omega (arith, a, e))
 
       pub again_stopped : IsStopped g ram native k n s after later v
       again_stopped = record {
@@ -378,8 +379,9 @@ module _ (g s : Seat) (ram : List ℕ) (board : BoardState) (native counts : Nat
         ready = base.ready;
         again = λ f reads fine h some.
             let (i, again, class_by, whole) = base.again f reads fine h some in (
-              midway_within g ram native k n mid board.world.ram counts m mid after.world.ram later
-                  (subst (λ (j : ℕ). Midway from board.world.ram counts j 0 mid after.world.ram later) none_retired i),
+              subst (λ (j : ℕ). Midway g ram native k n j mid after.world.ram later) (let once : n + 1 ≡ suc n = omega arith in once)
+                  (midway_within g ram native k n n mid board.world.ram counts m mid after.world.ram later 1
+                  (subst (λ (j : ℕ). Midway from board.world.ram counts j 0 1 mid after.world.ram later) none_retired i)),
               again,
               class_by,
               whole,
@@ -400,20 +402,20 @@ pub refilled_midway : (g s y : Seat) (ram : List ℕ) (native : NativeState) (k 
     → Fine s.size (bus_side (guested_on s b.world.ram))
     → refilled_at (bus_side (guested_on s b.world.ram)) (read_by_frame (space_of s.cpu) f) ≡ Some (bus_side (guested_on (with_bus_of s y) next))
     → IsSeated (with_bus_of s y) next → OnlyBetween s.base (end_of s) b.world.ram next
-    → IsUnderway (with_bus_of s y) × Midway g ram native k (suc n) (uncounted (with_bus_of s y)) next counts
+    → IsUnderway (with_bus_of s y) × Midway g ram native k (suc n) (suc n) (uncounted (with_bus_of s y)) next counts
 refilled_midway g s y ram native k n b counts v f next stopped few reads fine some seated within =
     let seat = with_bus_of s y in
     let h = bus_side (guested_on seat next) in
     let (m, again, class_by, whole) = stopped.again f reads fine h some in
     let before = stopped.seated in
     let mid = begun_seated seat next seat.devices (seat.steps - 1) seated in
-    let more = midway_again g ram native k n (uncounted s) b.world.ram counts m few h again (uncounted seat) next counts refl refl refl
+    let more = midway_again g ram native k n (suc n) (uncounted s) b.world.ram counts m few h again (uncounted seat) next counts refl refl refl
     (record { script = refl; base = refl; size = refl; area = seated.area ∙ sym before.area }) mid
-    (only_within (uncounted s) b.world.ram next before.behind within) refl refl (omega arith) in
+    (only_within (uncounted s) b.world.ram next before.behind within) refl refl refl in
     let devices_of : Turned → DeviceState = λ t. (guest_begun g.script t.guest).machine.world.devices in
     let devices : y.devices ≡ s.devices =
-    devices_there g ram native k (suc n) (uncounted seat) next counts more ∙ ap devices_of (more.taken ∙ sym m.taken)
-    ∙ sym (devices_there g ram native k n (uncounted s) b.world.ram counts m) in (
+    devices_there g ram native k (suc n) (suc n) (uncounted seat) next counts more ∙ ap devices_of (more.taken ∙ sym m.taken)
+    ∙ sym (devices_there g ram native k n (suc n) (uncounted s) b.world.ram counts m) in (
       record {
         begun = stopped.underway.begun;
         running = stopped.underway.running;
@@ -427,9 +429,9 @@ pub refilled_begins : (g s x : Seat) (ram : List ℕ) (native : NativeState) (k 
     → Fine s.size (bus_side (guested_on s b.world.ram))
     → refilled_at (bus_side (guested_on s b.world.ram)) (read_by_frame (space_of s.cpu) f) ≡ Some (bus_side (guested_on x next))
     → x ≡ with_bus_of s x → IsSeated x next → OnlyBetween s.base (end_of s) b.world.ram next
-    → IsUnderway x × Midway g ram native k (suc n) (uncounted x) next counts
+    → IsUnderway x × Midway g ram native k (suc n) (suc n) (uncounted x) next counts
 refilled_begins g s x ram native k n b counts v f next stopped few reads fine some is seated within =
-    subst (λ (y : Seat). IsUnderway y × Midway g ram native k (suc n) (uncounted y) next counts) (sym is)
+    subst (λ (y : Seat). IsUnderway y × Midway g ram native k (suc n) (suc n) (uncounted y) next counts) (sym is)
     (refilled_midway g s x ram native k n b counts v f next stopped few reads fine
     (some ∙ ap (λ (y : Seat). (let o : Option Guest = Some (bus_side (guested_on y next)) in o)) is)
     (subst (λ (y : Seat). IsSeated y next) is seated) within)
@@ -451,7 +453,7 @@ refilled_ready g s y ram native k n b counts v f later stopped reads fine some s
     let before = stopped.seated in
     let space = space_of s.cpu in
     let (m, again, class_by, whole) = stopped.again f reads fine (bus_side (guested_on seat next)) some in
-    let ahead = midway_ahead g ram native k n (uncounted s) b.world.ram counts m (bus_side (guested_on seat next)) again in
+    let ahead = midway_ahead g ram native k n (suc n) (uncounted s) b.world.ram counts m (bus_side (guested_on seat next)) again in
     let entry_of : Shadowed → ℕ → Option (ℕ × Bool) = λ h page. h.entries space page in
     let more : (page : ℕ) (entry : ℕ × Bool) → mapping (site_of s) b.world.ram page ≡ Some entry → mapping (site_of seat) next page ≡ Some entry =
     λ page entry e. ap (λ (h : Shadowed). entry_of h page) seated.tables

@@ -1,7 +1,6 @@
 -- What each way in which a guest goes on has taken of its turn.
 use Rattle.std.proofs.Common.{◌≡◌, ◌∙◌, ℕ, suc, ◌+◌, ◌<◌, Bool, true, false, cond, nat_lt, List, [], Some, None, refl, ap, sym, subst, arith}
 use Rattle.mb_port.specs.Routine.{run}
-use Rattle.mb_instr.specs.declared.registers.Plain.{Plain}
 use Rattle.mb_model.specs.declared.processor.Cpu.{Cpu}
 use Rattle.mb_devices.specs.Devices.{passed, IsNotDue}
 use Rattle.def_processor.specs.Step.{interrupt_mask, step_of, rank}
@@ -13,12 +12,14 @@ use Rattle.def_guests.specs.declared.class.Class.{Class}
 use Rattle.def_guests.specs.declared.class.Class.TheVariants.{Entered, Idle, Traced}
 use Rattle.def_guests.specs.Bus.{guest_bus}
 use Rattle.def_guests.specs.Classes.{is_traced}
-use Rattle.def_guests.specs.Turns.{Guested, Tally, Turned, bus_side, guest_stepped, refills_of_step, tallied, with_refills, exits, marks_of, by_class, advanced}
+use Rattle.def_guests.specs.Turns.{Guested, Tally, Turned, bus_side, guest_stepped, refills_of_step, tallied, with_refills, exceptions_of, marks_of, by_class}
+use Rattle.def_guests.specs.Turns.{advanced}
 use Rattle.def_guests.specs.Turns.{turn_of}
 use Rattle.def_guests.specs.Seats.{Seat, end_of, guested_on, turned_on, IsSame, IsSeated, Takes}
 use Rattle.def_guests.proofs.TurnLaws.{going_turn, nothing_turned}
 use Rattle.law_turns.specs.Idle.{IsIdle, idle_seat}
 use Rattle.law_turns.proofs.Idle.{idle_steps_take}
+use Rattle.law_turns.proofs.Taking.{same_turned}
 use Rattle.vm_guest.specs.Memory.{OnlyBetween}
 use Rattle.def_guests.specs.Classes.{assisted}
 use Rattle.vm_guest.specs.Turns.{begun_seat, ended_at, scene, level_on}
@@ -31,13 +32,14 @@ use Rattle.vm_guest.proofs.Seated.{only_within}
 record Aside (c : Class) : Type 0 where
   pub marks : (before after : Cpu) → marks_of c before after ≡ []
   pub retired : (t : Tally) → (tallied c t).retired ≡ t.retired
-  pub exits : (t : Tally) → exits (tallied c t) ≡ exits t
+  pub exceptions : (n : ℕ) → exceptions_of c n ≡ 0
   pub refills : (n : ℕ) (t : Tally) → with_refills c n t ≡ t
 
 aside_by : (a b t : Bool) (c : Class) → cond a (Some Entered) (cond b (Some Idle) (cond t (Some Traced) None)) ≡ Some c → Aside c
-aside_by true b t c h = subst Aside (inner Entered c h) (record { marks = λ x y. refl; retired = λ x. refl; exits = λ x. refl; refills = λ n x. refl })
-aside_by false true t c h = subst Aside (inner Idle c h) (record { marks = λ x y. refl; retired = λ x. refl; exits = λ x. refl; refills = λ n x. refl })
-aside_by false false true c h = subst Aside (inner Traced c h) (record { marks = λ x y. refl; retired = λ x. refl; exits = λ x. refl; refills = λ n x. refl })
+aside_by true b t c h = subst Aside (inner Entered c h) (record { marks = λ x y. refl; retired = λ x. refl; exceptions = λ n. refl; refills = λ n x. refl })
+aside_by false true t c h = subst Aside (inner Idle c h) (record { marks = λ x y. refl; retired = λ x. refl; exceptions = λ n. refl; refills = λ n x. refl })
+aside_by false false true c h =
+    subst Aside (inner Traced c h) (record { marks = λ x y. refl; retired = λ x. refl; exceptions = λ n. refl; refills = λ n x. refl })
 aside_by false false false c h = absurd (let z : ⊥ = cc in z)
 
 aside : (level : ℕ) (cpu : Cpu) (c : Class) → assisted level cpu ≡ Some c → Aside c
@@ -51,10 +53,10 @@ one_step : (script : Entries) (t : Turned) (c : Class) (n : ℕ) (after : Gueste
     → by_class c n after t ≡ advanced script t → by_class c n after t ≡ turn_of script 1 t
 one_step script t c n after goes is = is ∙ sym (nothing_turned script (advanced script t)) ∙ sym (going_turn script 0 t goes)
 
-advanced_is : (g : Seat) (ram : List ℕ) (c : Class) → assisted (level_on (begun_seat g)) g.cpu ≡ Some c → let t = turned_on g ram [] in
+advanced_is : (g : Seat) (ram : List ℕ) (c : Class) → assisted (level_on (begun_seat g)) g.cpu ≡ Some c → let t = turned_on g ram [] 0 in
     by_class c (refills_of_step g.script (guested_on g ram)) (guest_stepped g.script (guested_on g ram)) t ≡ advanced g.script t
 advanced_is g ram c h =
-    ap (λ (k : Class). by_class k (refills_of_step g.script (guested_on g ram)) (guest_stepped g.script (guested_on g ram)) (turned_on g ram []))
+    ap (λ (k : Class). by_class k (refills_of_step g.script (guested_on g ram)) (guest_stepped g.script (guested_on g ram)) (turned_on g ram [] 0))
     (sym (class_begun g ram c h))
 
 pub assisted_takes : (g h : Seat) (ram next : List ℕ) (native : NativeState) (c : Class) → takes_steps g.state ≡ true → let b = begun_seat g in
@@ -64,26 +66,25 @@ pub assisted_takes : (g h : Seat) (ram next : List ℕ) (native : NativeState) (
     → Takes 1 (scene g ram native) (scene h next native)
 unfolding trail
 assisted_takes g h ram next native c goes class means tally same seated after within =
-    let t = turned_on g ram [] in
+    let t = turned_on g ram [] 0 in
     let so = aside (level_on (begun_seat g)) g.cpu c class in
     let refills = refills_of_step g.script (guested_on g ram) in
     let guest : guested_on h next ≡ guest_stepped g.script (guested_on g ram) = means ∙ stepped_is g ram in
-    let of : Guested → Tally → List Plain → Turned = λ q n marks. record { guest = q; tally = n; marks = marks } in
     record {
       marks = [];
+      left_times = 0;
       turned =
-          ap (λ (q : Guested). of q h.tally []) guest
-          ∙ ap (λ (n : Tally). of (guest_stepped g.script (guested_on g ram)) n []) tally
-          ∙ ap (λ (n : Tally). of (guest_stepped g.script (guested_on g ram)) n []) (sym (so.refills refills (tallied c g.tally)))
-          ∙ ap (λ (marks : List Plain). of (guest_stepped g.script (guested_on g ram)) (with_refills c refills (tallied c g.tally)) marks)
+          same_turned (turned_on h next [] 0) (by_class c refills (guest_stepped g.script (guested_on g ram)) t) guest
+          (tally ∙ sym (so.refills refills (tallied c g.tally)))
           (sym (so.marks g.cpu (guest_stepped g.script (guested_on g ram)).machine.cpu))
+          (let e = so.exceptions refills in omega arith)
           ∙ one_step g.script t c refills (guest_stepped g.script (guested_on g ram)) goes (advanced_is g ram c class);
       same = same;
       seated = after;
       within = only_within g ram next seated.behind within;
       retired = (let e = ap (λ (n : Tally). n.retired) tally ∙ so.retired g.tally in omega arith);
       trail = refl;
-      exceptions = (let e = ap exits tally ∙ so.exits g.tally in omega arith);
+      exceptions = omega arith;
     }
 
 -- ---- idle steps

@@ -14,7 +14,9 @@ stays_taken m t still seated =
     let none = nothing_is_taken t seated in
     record {
       marks = none.marks;
-      turned = none.turned ∙ nothing_turned t.guest.script (turned_on t.guest t.ram []) ∙ sym (halted_turn t.guest.script m (turned_on t.guest t.ram []) still);
+      left_times = none.left_times;
+      turned = none.turned ∙ nothing_turned t.guest.script (turned_on t.guest t.ram [] 0)
+          ∙ sym (halted_turn t.guest.script m (turned_on t.guest t.ram [] 0) still);
       same = none.same;
       seated = none.seated;
       within = none.within;
@@ -31,7 +33,7 @@ takes_rest n m k s t sum still takes =
 pub takes_machine : (n : ℕ) (s t : Scene) → Takes n s t
     → machine_on t.guest t.ram ≡ run_of rule_k s.guest.script n (machine_on s.guest s.ram)
 takes_machine n s t takes =
-    ap (λ (u : Turned). u.guest.machine) takes.turned ∙ turns_by_rule s.guest.script n (turned_on s.guest s.ram [])
+    ap (λ (u : Turned). u.guest.machine) takes.turned ∙ turns_by_rule s.guest.script n (turned_on s.guest s.ram [] 0)
 
 -- what is taken of a turn of which so many steps are left, and one part more
 pub more_taken : (limit left n : ℕ) (s t u : Scene) → left ≤ limit → n ≤ left → Takes (limit - left) s t → Takes n t u → Takes (limit - (left - n)) s u

@@ -19,4 +19,4 @@ abbrev pub GuestsJoin : Type 0
 GuestsJoin = (s : Stage) (g : Seat) (ram : List ℕ) → AllSeated s → IsSeated g ram
     → OnlyBetween g.base (end_of g) s.ram ram → ((i : ℕ) → i < s.count → LieApart (s.guests i) g)
     → AllSeated (joined s g ram)
-    × ((i : ℕ) → i < s.count → turned_on ((joined s g ram).guests i) ram [] ≡ turned_on (s.guests i) s.ram [])
+    × ((i : ℕ) → i < s.count → turned_on ((joined s g ram).guests i) ram [] 0 ≡ turned_on (s.guests i) s.ram [] 0)

@@ -58,7 +58,7 @@ pub record IsStopped (g : Seat) (ram : List ℕ) (native : NativeState) (k n : �
   pub again : (f : Frame) → IsFrameOf b f → let w = bus_side (guested_on s b.world.ram) in
       let level = level_of s.devices in
       Fine s.size w → (h : Guest) → refilled_at w (read_by_frame (space_of s.cpu) f) ≡ Some h
-      → Midway g ram native k n (uncounted s) b.world.ram counts × (begun_again s.cpu w ≡ Some h)
+      → Midway g ram native k n (suc n) (uncounted s) b.world.ram counts × (begun_again s.cpu w ≡ Some h)
       × (class_of_vector vector ≡ class_at_first level s.cpu w)
       × (run guest_bus (rest_by_frame vector (frame_access f) level s.cpu (handed_by b.cpu.regs f)) w
       ≡ run guest_bus (step_of level s.cpu) w)
@@ -86,4 +86,4 @@ pub record BeginsAgain (s : Seat) (b : BoardState) (counts : NativeState) : Type
   pub underway : IsUnderway s
   pub seated : IsSeated s b.world.ram
   pub ready : IsReady s b
-  pub midway : Midway guest ram native taken (suc refills) (uncounted s) b.world.ram counts
+  pub midway : Midway guest ram native taken (suc refills) (suc refills) (uncounted s) b.world.ram counts

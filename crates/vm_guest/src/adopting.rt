@@ -68,7 +68,7 @@ impl Guest {
         requires fresh { self.old.steps ≡ 0 }
         requires lawful { IsLawful saved.now }
         requires size { saved.now.ram ≡ self.old.size }
-        ensures begins { turned_on self.new board.new.world.ram []
+        ensures begins { turned_on self.new board.new.world.ram [] 0
             ≡ beginning (machine_of self.old.devices.disk saved.now) }
         ensures same { IsSame self.old self.new }
         ensures seated { IsSeated self.new board.new.world.ram }

@@ -96,7 +96,7 @@ impl Guest {
         requires base { (MONITOR_BYTES ≤ base) × (base % AREA_BYTES ≡ 0) }
         requires inside { base + ram + AREA_BYTES ≤ length board.old.world.ram }
         ensures start { IfOk result (λ guest.
-            turned_on guest board.new.world.ram [] ≡ prepared (diskless (contents_of image)) ram) }
+            turned_on guest board.new.world.ram [] 0 ≡ prepared (diskless (contents_of image)) ram) }
         ensures script { IfOk result (λ guest. guest.script ≡ script) }
         ensures place { IfOk result (λ guest. (guest.base ≡ base) × (guest.size ≡ ram)) }
         ensures seated { IfOk result (λ guest. IsSeated guest board.new.world.ram) }

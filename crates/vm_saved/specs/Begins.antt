@@ -5,7 +5,8 @@ use Rattle.mb_model.specs.Keeping.{Rule, rule_k}
 use Rattle.def_machine.specs.Machine.{Entries, Machine, Opening, going, run_of, start, takes_steps}
 use Rattle.vm_shadow.specs.Shadows.{nothing}
 use Rattle.def_runs.specs.Free.{IsFreeRun}
-use Rattle.def_guests.specs.Turns.{Tally, Turned, no_steps, prepared, tally_of, marks_between, turn_of, steps_in, without_marks}
+use Rattle.def_guests.specs.Turns.{Tally, Turned, no_steps, prepared, tally_of, marks_between, turn_of, steps_in}
+use Rattle.def_guests.specs.Turns.{afresh}
 use Rattle.def_guests.specs.Seats.{Seat, machine_on, turned_on}
 use Rattle.def_guests.specs.Stages.{Stage, AllSeated, Turns, TakeTurns, steps_for}
 
@@ -13,7 +14,12 @@ use Rattle.def_guests.specs.Stages.{Stage, AllSeated, Turns, TakeTurns, steps_fo
 
 -- A guest that begins with a machine: nothing in its shadow, nothing counted.
 abbrev pub beginning : Machine → Turned
-beginning m = record { guest = record { machine = m; shadow = nothing }; tally = no_steps; marks = [] }
+beginning m = record {
+  guest = record { machine = m; shadow = nothing };
+  tally = no_steps;
+  marks = [];
+  exceptions = 0;
+}
 
 -- A guest's start is one of these.
 abbrev pub StartsBegin : Type 0
@@ -25,7 +31,7 @@ tally_from script n m = (turn_of script n (beginning m)).tally
 
 -- The marks of the steps k + 1 to n from a machine.
 abbrev pub marks_from : Entries → (k n : ℕ) → Machine → List Plain
-marks_from script k n m = (turn_of script (n - k) (without_marks (turn_of script k (beginning m)))).marks
+marks_from script k n m = (turn_of script (n - k) (afresh (turn_of script k (beginning m)))).marks
 
 -- Those of a guest's start are the same.
 abbrev pub StartsCount : Type 0
@@ -101,5 +107,5 @@ pub record RunsFrom (m : Machine) (script : Entries) (n : ℕ) (guest : Seat) (r
 -- Whatever turns there are, a guest that began with a machine comes to that.
 abbrev pub BegunGuestsRunAlone : Type 0
 BegunGuestsRunAlone = (turns : Turns) (s t : Stage) → AllSeated s → TakeTurns turns s t → (j : ℕ) → j < s.count
-    → (m : Machine) → turned_on (s.guests j) s.ram [] ≡ beginning m
+    → (m : Machine) → turned_on (s.guests j) s.ram [] 0 ≡ beginning m
     → RunsFrom m (s.guests j).script (steps_for j turns) (t.guests j) t.ram

@@ -16,7 +16,7 @@ use Rattle.vm_slices.specs.Adopting.{begun, bounded}
 use Rattle.vm_slices.specs.Places.{member_of, members_of, with_member, StandFrom}
 
 pub member_begun : (saved : Saved) (g : HostGuest) (h : Seat) (x y : List ℕ)
-    → turned_on h y [] ≡ beginning (machine_of g.guest.devices.disk saved) → IsSame g.guest h
+    → turned_on h y [] 0 ≡ beginning (machine_of g.guest.devices.disk saved) → IsSame g.guest h
     → member_of y (record { guest = h; bound = g.bound }) ≡ begun saved (member_of x g)
 member_begun saved g h x y begins same =
     ap (λ (s : Entries). (let k : Member = record { script = s; bound = g.bound; guest = guested_on h y; tally = h.tally } in k)) same.script

@@ -22,14 +22,14 @@ turned_with disk t = record t {
 }
 
 -- none is attached before
-pub starts_without : (g : Seat) (ram : List ℕ) (image : Contents) (size : ℕ) → turned_on g ram [] ≡ prepared (diskless image) size
+pub starts_without : (g : Seat) (ram : List ℕ) (image : Contents) (size : ℕ) → turned_on g ram [] 0 ≡ prepared (diskless image) size
     → g.devices.disk ≡ None
 unfolding reset_with
 starts_without g ram image size h = ap (λ (t : Turned). t.guest.machine.world.devices.disk) h
 
 pub starts_with : (g : Seat) (ram : List ℕ) (image : Contents) (disk : Option DiskState) (size : ℕ)
-    → turned_on g ram [] ≡ prepared (diskless image) size
-    → turned_on (with_disk disk g) ram [] ≡ prepared (record { image = image; disk = disk }) size
+    → turned_on g ram [] 0 ≡ prepared (diskless image) size
+    → turned_on (with_disk disk g) ram [] 0 ≡ prepared (record { image = image; disk = disk }) size
 unfolding reset_with turned_with
 starts_with g ram image disk size h = ap (turned_with disk) h
 
@@ -41,11 +41,11 @@ member_by script bound t = record { script = script; bound = bound; guest = t.gu
 
 -- it is what a session says of it
 pub opens : (g h : Seat) (ram : List ℕ) (s : GuestAtStart) (image : Contents) (disk : Option DiskState) (size bound : ℕ)
-    → turned_on g ram [] ≡ prepared (diskless image) size → h ≡ with_disk disk g → g.script ≡ s.script → image ≡ s.opening.image
+    → turned_on g ram [] 0 ≡ prepared (diskless image) size → h ≡ with_disk disk g → g.script ≡ s.script → image ≡ s.opening.image
     → disk ≡ s.opening.disk → size ≡ s.ram → bound ≡ s.steps → member_of ram (record { guest = h; bound = bound }) ≡ member_at_start s
 opens g h ram s image disk size bound starts has script image_is disk_is size_is bound_is =
     ap (λ (x : Seat). member_of ram (record { guest = x; bound = bound })) has
-    ∙ ap (λ (e : Entries). member_by e bound (turned_on (with_disk disk g) ram [])) script
+    ∙ ap (λ (e : Entries). member_by e bound (turned_on (with_disk disk g) ram [] 0)) script
     ∙ ap (member_by s.script bound) (starts_with g ram image disk size starts)
     ∙ ap (λ (i : Contents). member_by s.script bound (prepared (record { image = i; disk = disk }) size)) image_is
     ∙ ap (λ (d : Option DiskState). member_by s.script bound (prepared (record { image = s.opening.image; disk = d }) size)) disk_is

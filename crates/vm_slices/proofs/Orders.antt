@@ -1,7 +1,7 @@
 -- Turns in an order: those of a guest are one.
-use Rattle.std.proofs.Common.{◌≡◌, ◌∙◌, ℕ, zero, suc, ◌+◌, ◌-◌, ◌≤◌, ◌<◌, ◌==◌, min, List, [], ◌∷◌, ◌++◌, length, drop, get_or, map, refl, ap, sym, subst, true, false, inl, inr, drop-cons, arith}
+use Rattle.std.proofs.Common.{◌≡◌, ◌∙◌, ℕ, zero, suc, ◌+◌, ◌-◌, ◌≤◌, ◌<◌, ◌==◌, min, List, [], ◌∷◌, ◌++◌, length, drop, get_or, map, refl, ap, sym, subst}
+use Rattle.std.proofs.Common.{true, false, inl, inr, drop-cons, arith}
 use Rattle.std.specs.Prelude.{All}
-use Rattle.std.proofs.lemmas.List.{append-nil}
 use Rattle.std.proofs.lemmas.Bool.{cases_Bool}
 use Rattle.std.proofs.lemmas.Bool.Decides.{nat_tests}
 use Rattle.mb_instr.specs.declared.registers.Plain.{Plain}
@@ -9,24 +9,24 @@ use Rattle.mb_script.specs.declared.turn.Turn.{Turn}
 use Rattle.mb_model.specs.Keeping.{rule_k}
 use Rattle.def_machine.specs.Machine.{Entries, Machine, run_of, takes_steps}
 use Rattle.def_runs.specs.Native.{NativeState}
-use Rattle.def_guests.specs.Turns.{Tally, Turned, turn_of, without_marks}
+use Rattle.def_guests.specs.Turns.{Tally, Turned, turn_of, afresh}
 use Rattle.def_guests.specs.Rounds.{Member, Hosted, left, left_of_all, opened, closed_by, whole_turn}
 use Rattle.def_guests.proofs.ByRule.{turns_by_rule}
-use Rattle.def_guests.proofs.TurnLaws.{halted_turn, nothing_turned, turns_add, turn_front}
+use Rattle.def_guests.proofs.TurnLaws.{halted_turn, nothing_turned, turns_add, afresh_before, marks_stay_before}
 use Rattle.vm_slices.specs.Counting.{AreCounted, RisesBy}
 use Rattle.vm_slices.specs.Members.{after_turn, machine_at_end, machines_of, tally_at_end}
 use Rattle.vm_slices.specs.Orders.{after_order, each_given, given, in_order, machine_given, machines_given, steps_given}
-use Rattle.vm_slices.specs.Places.{marks_at, with_turn}
+use Rattle.vm_slices.specs.Places.{exceptions_at, marks_at, with_turn}
 use Rattle.vm_slices.proofs.Places.{counted_on, nothing_counted}
 use Rattle.vm_slices.proofs.Turns.{after_steps, left_going, left_still, steps_left, turn_steps}
 
 -- ---- two turns of a guest are one
 
 -- marks before a turn have no part in it
-unmarked_turn : (script : Entries) (n : ℕ) (t : Turned) (m : Member) → closed_by (turn_of script n (without_marks t)) m ≡ closed_by (turn_of script n t) m
+unmarked_turn : (script : Entries) (n : ℕ) (t : Turned) (m : Member) → closed_by (turn_of script n (afresh t)) m ≡ closed_by (turn_of script n t) m
 unmarked_turn script n t m =
-    ap (λ (x : Turned). closed_by x m) (sym (turn_front script n t.marks (without_marks t)))
-    ∙ ap (λ (marks : List Plain). closed_by (turn_of script n (record t { marks = marks })) m) (append-nil t.marks)
+    ap (λ (x : Turned). closed_by x m) (sym (marks_stay_before script n t.marks t.exceptions (afresh t)))
+    ∙ ap (λ (x : Turned). closed_by (turn_of script n x) m) (afresh_before t)
 
 steps_add : (m : Member) (n k : ℕ) → after_steps (after_steps m n) k ≡ after_steps m (n + k)
 steps_add m n k =
@@ -196,33 +196,39 @@ tallies_end turns number (m ∷ ms) =
 
 pub record SoFar (turns later : List Turn) (first now : List Member) (old new : NativeState) : Type 0 where
   pub marks : List Plain
-  pub order : in_order later (record { members = now; marks = marks }) ≡ after_order turns first
-  pub counts : AreCounted first now marks old new
+  pub left_times : ℕ
+  pub order : in_order later (record { members = now; marks = marks; exceptions = left_times }) ≡ after_order turns first
+  pub counts : AreCounted first now marks left_times old new
   pub rises : RisesBy (left_of_all first) (left_of_all now) old new
 
 pub none_so_far : (turns : List Turn) (ms : List Member) (native : NativeState) → SoFar turns turns ms ms native native
-none_so_far turns ms native = record { marks = []; order = refl; counts = nothing_counted ms native; rises = (omega arith, omega arith) }
+none_so_far turns ms native = record { marks = []; left_times = 0; order = refl; counts = nothing_counted ms native; rises = (omega arith, omega arith) }
 
 pub one_turn : (turns later : List Turn) (turn : Turn) (first now next : List Member) (o p q : NativeState)
     → next ≡ with_turn turn.steps (turn.guest - 1) now → SoFar turns (turn ∷ later) first now o p
-    → AreCounted now next (marks_at turn.steps (turn.guest - 1) now) p q → RisesBy (left_of_all now) (left_of_all next) p q
+    → AreCounted now next (marks_at turn.steps (turn.guest - 1) now) (exceptions_at turn.steps (turn.guest - 1) now) p q
+    → RisesBy (left_of_all now) (left_of_all next) p q
     → SoFar turns later first next o q
 unfolding in_order
 one_turn turns later turn first now next o p q is far counts rises =
     let own = marks_at turn.steps (turn.guest - 1) now in
     let marks = far.marks ++ own in
+    let more = exceptions_at turn.steps (turn.guest - 1) now in
+    let left_times = far.left_times + more in
     let a = far.rises.0 in let b = rises.0 in let c = far.rises.1 in let d = rises.1 in
     record {
       marks = marks;
-      order = ap (λ (ms : List Member). in_order later (record { members = ms; marks = marks })) is ∙ far.order;
-      counts = counted_on first now next far.marks own o p q far.counts counts;
+      left_times = left_times;
+      order = ap (λ (ms : List Member). in_order later (record { members = ms; marks = marks; exceptions = left_times })) is ∙ far.order;
+      counts = counted_on first now next far.marks own far.left_times more o p q far.counts counts;
       rises = (omega arith, omega arith);
     }
 
 -- the turn at a place
 pub next_turn : (turns : List Turn) (i : ℕ) (d : Turn) (first now next : List Member) (o p q : NativeState) → i < length turns
     → SoFar turns (drop i turns) first now o p → next ≡ with_turn (get_or turns i d).steps ((get_or turns i d).guest - 1) now
-    → AreCounted now next (marks_at (get_or turns i d).steps ((get_or turns i d).guest - 1) now) p q → RisesBy (left_of_all now) (left_of_all next) p q
+    → AreCounted now next (marks_at (get_or turns i d).steps ((get_or turns i d).guest - 1) now)
+    (exceptions_at (get_or turns i d).steps ((get_or turns i d).guest - 1) now) p q → RisesBy (left_of_all now) (left_of_all next) p q
     → SoFar turns (drop (i + 1) turns) first next o q
 next_turn turns i d first now next o p q less far is counts rises =
     let turn = get_or turns i d in
@@ -233,9 +239,9 @@ next_turn turns i d first now next o p q less far is counts rises =
     (subst (λ (ts : List Turn). SoFar turns ts first now o p) here far) counts rises)
 
 pub order_ends : (turns : List Turn) (first now : List Member) (o p : NativeState) → SoFar turns [] first now o p
-    → (now ≡ (after_order turns first).members) × AreCounted first now (after_order turns first).marks o p
+    → (now ≡ (after_order turns first).members) × AreCounted first now (after_order turns first).marks (after_order turns first).exceptions o p
 unfolding in_order
 order_ends turns first now o p far = (
   ap (λ (x : Hosted). x.members) far.order,
-  subst (λ (marks : List Plain). AreCounted first now marks o p) (ap (λ (x : Hosted). x.marks) far.order) far.counts,
+  subst (λ (x : Hosted). AreCounted first now x.marks x.exceptions o p) far.order far.counts,
 )

@@ -10,13 +10,13 @@ use Rattle.def_runs.specs.Native.{NativeState}
 use Rattle.def_guests.specs.Turns.{Turned}
 use Rattle.def_guests.specs.Seats.{end_of, IsSame, IsSeated, OnlyWithin}
 use Rattle.def_guests.specs.declared.limits.TheConstants.{MONITOR_BYTES}
-use Rattle.def_guests.specs.Rounds.{Member, left, is_done, all_done, left_of_all, turn_in, members_after, marks_after}
+use Rattle.def_guests.specs.Rounds.{Member, left, is_done, all_done, left_of_all, turn_in, members_after, marks_after, exceptions_after}
 use Rattle.def_guests.proofs.Seated.{Alone, alone, turned_alone}
 use Rattle.vm_slices.specs.declared.host_guest.HostGuest.{HostGuest}
 use Rattle.def_guests.proofs.Trails.{trail_append}
 use Rattle.vm_slices.specs.Counting.{AreCounted, HasRoom, RisesBy}
 use Rattle.vm_slices.specs.Members.{after_turn, IsBounded}
-use Rattle.vm_slices.specs.Places.{member_of, members_of, StandFrom, with_member, with_turn, marks_at}
+use Rattle.vm_slices.specs.Places.{member_of, members_of, StandFrom, with_member, with_turn, exceptions_at, marks_at}
 
 -- ---- one of them
 
@@ -60,7 +60,7 @@ none_behind (k ∷ ks) ram (suc i) more = none_behind ks ram i (omega arith)
 same_member : (g : HostGuest) (x y : List ℕ) → Alone g.guest x y → member_of y g ≡ member_of x g
 same_member g x y a =
     ap (λ (t : Turned). (let m : Member = record { script = g.guest.script; bound = g.bound; guest = t.guest; tally = g.guest.tally } in m))
-    (turned_alone g.guest x y [] a.machine a.tables)
+    (turned_alone g.guest x y [] 0 a.machine a.tables)
 
 -- memory changes within a guest that is before them
 behind_stay : (from : ℕ) (ks : List HostGuest) (g : HostGuest) (x y : List ℕ) → StandFrom from ks x → end_of g.guest ≤ from
@@ -163,43 +163,75 @@ pub all_marks : (slice : ℕ) (ms : List Member) → first_marks slice (length m
 all_marks slice [] = refl
 all_marks slice (m ∷ ms) = ap (λ (marks : List Plain). (turn_in slice m).marks ++ marks) (all_marks slice ms)
 
+-- the exceptions of so many turns
+abbrev pub first_exceptions : (slice n : ℕ) → List Member → ℕ
+first_exceptions slice n [] = 0
+first_exceptions slice zero (m ∷ ms) = 0
+first_exceptions slice (suc n) (m ∷ ms) = (turn_in slice m).exceptions + first_exceptions slice n ms
+
+pub no_exceptions : (slice : ℕ) (ms : List Member) → first_exceptions slice 0 ms ≡ 0
+no_exceptions slice [] = refl
+no_exceptions slice (m ∷ ms) = refl
+
+pub more_exceptions : (slice n : ℕ) (ms : List Member)
+    → first_exceptions slice n ms + exceptions_at slice n (first_turned slice n ms) ≡ first_exceptions slice (suc n) ms
+more_exceptions slice n [] = refl
+more_exceptions slice zero (m ∷ ms) = let none = no_exceptions slice ms in omega arith
+more_exceptions slice (suc n) (m ∷ ms) =
+    let rest = more_exceptions slice n ms in
+    let own = (turn_in slice m).exceptions in
+    let all : own + first_exceptions slice n ms + exceptions_at slice n (first_turned slice n ms) ≡ own + first_exceptions slice (suc n) ms =
+    omega arith in all
+
+pub all_exceptions : (slice : ℕ) (ms : List Member) → first_exceptions slice (length ms) ms ≡ exceptions_after slice ms
+all_exceptions slice [] = refl
+all_exceptions slice (m ∷ ms) = ap (λ (e : ℕ). (turn_in slice m).exceptions + e) (all_exceptions slice ms)
+
 -- ---- what is counted
 
-pub nothing_counted : (ms : List Member) (native : NativeState) → AreCounted ms ms [] native native
+pub nothing_counted : (ms : List Member) (native : NativeState) → AreCounted ms ms [] 0 native native
 unfolding trail
-nothing_counted ms native = record { retired = refl; trail = refl; exceptions = omega arith; most = omega arith }
+nothing_counted ms native = record { retired = refl; trail = refl; exceptions = omega arith; least = omega arith; most = omega arith }
 
-pub counted_on : (a b c : List Member) (first more : List Plain) (o p q : NativeState) → AreCounted a b first o p → AreCounted b c more p q
-    → AreCounted a c (first ++ more) o q
-counted_on a b c first more o p q x y =
+pub counted_as : {a b : List Member} {x y : List Plain} {d e : ℕ} {o p : NativeState} → x ≡ y → d ≡ e → AreCounted a b x d o p → AreCounted a b y e o p
+counted_as {a} {b} {x} {y} {d} {e} {o} {p} marks exceptions counts =
+    subst (λ (z : List Plain). AreCounted a b z e o p) marks (subst (λ (n : ℕ). AreCounted a b x n o p) exceptions counts)
+
+pub counted_on : (a b c : List Member) (first more : List Plain) (d e : ℕ) (o p q : NativeState) → AreCounted a b first d o p → AreCounted b c more e p q
+    → AreCounted a c (first ++ more) (d + e) o q
+counted_on a b c first more d e o p q x y =
     let r = x.retired in
     let s = y.retired in
-    let e = x.exceptions in
-    let f = y.exceptions in
+    let g = x.exceptions in
+    let h = y.exceptions in
+    let i = x.least in
+    let j = y.least in
     let l = x.most in
     let m = y.most in
     record {
       retired = omega arith;
       trail = y.trail ∙ ap (λ (t : ℕ). trail t more) x.trail ∙ sym (trail_append o.trail first more);
-      exceptions = omega arith;
+      exceptions = omega (arith, g, h);
+      least = omega arith;
       most = omega arith;
     }
 
 -- of a turn of one of the members
 pub record Turn (slice place : ℕ) (ms : List Member) (old new : NativeState) : Type 0 where
-  pub counts : AreCounted ms (with_turn slice place ms) (marks_at slice place ms) old new
+  pub counts : AreCounted ms (with_turn slice place ms) (marks_at slice place ms) (exceptions_at slice place ms) old new
   pub bounds : All IsBounded (with_turn slice place ms)
   pub rises : RisesBy (left_of_all ms) (left_of_all (with_turn slice place ms)) old new
 
 -- what is known of the one that takes it
 pub record Own (slice : ℕ) (m : Member) (old new : NativeState) : Type 0 where
-  pub counts : AreCounted (m ∷ []) (after_turn slice m ∷ []) (turn_in slice m).marks old new
+  pub counts : AreCounted (m ∷ []) (after_turn slice m ∷ []) (turn_in slice m).marks (turn_in slice m).exceptions old new
   pub rises : RisesBy (left m) (left (after_turn slice m)) old new
 
-pub own_by : (slice : ℕ) (m k : Member) (old new : NativeState) → k ≡ after_turn slice m → AreCounted (m ∷ []) (k ∷ []) (turn_in slice m).marks old new
+pub own_by : (slice : ℕ) (m k : Member) (old new : NativeState) → k ≡ after_turn slice m
+    → AreCounted (m ∷ []) (k ∷ []) (turn_in slice m).marks (turn_in slice m).exceptions old new
     → RisesBy (left m) (left k) old new → Own slice m old new
 own_by slice m k old new is counts rises = record {
-  counts = subst (λ (a : Member). AreCounted (m ∷ []) (a ∷ []) (turn_in slice m).marks old new) is counts;
+  counts = subst (λ (a : Member). AreCounted (m ∷ []) (a ∷ []) (turn_in slice m).marks (turn_in slice m).exceptions old new) is counts;
   rises = subst (λ (a : Member). RisesBy (left m) (left a) old new) is rises;
 }
 
@@ -253,12 +285,18 @@ turn_of_one slice i [] g x old new less is bounds own = absurd (omega arith)
 turn_of_one slice zero (k ∷ ks) g x old new less is bounds own =
     let own : Own slice (member_of x k) old new = subst (λ (a : HostGuest). Own slice (member_of x a) old new) is own in
     let r = own.counts.retired in
-    let e = own.counts.exceptions in
+    let l = own.counts.least in
     let m = own.counts.most in
     let s = own.rises.0 in
     let f = own.rises.1 in
     record {
-      counts = record { retired = omega arith; trail = own.counts.trail; exceptions = omega arith; most = omega arith };
+      counts = record {
+        retired = omega arith;
+        trail = own.counts.trail;
+        exceptions = own.counts.exceptions;
+        least = omega arith;
+        most = omega arith;
+      };
       bounds = with_first (after_turn slice (member_of x k)) (members_of ks x) (bounds zero (member_of x k) (omega arith))
           (all_behind (member_of x k) (members_of ks x) bounds);
       rises = (omega arith, omega arith);
@@ -266,12 +304,18 @@ turn_of_one slice zero (k ∷ ks) g x old new less is bounds own =
 turn_of_one slice (suc i) (k ∷ ks) g x old new less is bounds own =
     let rest = turn_of_one slice i ks g x old new (omega arith) is (all_behind (member_of x k) (members_of ks x) bounds) own in
     let r = rest.counts.retired in
-    let e = rest.counts.exceptions in
+    let l = rest.counts.least in
     let m = rest.counts.most in
     let s = rest.rises.0 in
     let f = rest.rises.1 in
     record {
-      counts = record { retired = omega arith; trail = rest.counts.trail; exceptions = omega arith; most = omega arith };
+      counts = record {
+        retired = omega arith;
+        trail = rest.counts.trail;
+        exceptions = rest.counts.exceptions;
+        least = omega arith;
+        most = omega arith;
+      };
       bounds = with_first (member_of x k) (with_turn slice i (members_of ks x)) (bounds zero (member_of x k) (omega arith)) rest.bounds;
       rises = (omega arith, omega arith);
     }

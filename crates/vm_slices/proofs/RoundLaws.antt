@@ -8,7 +8,7 @@ use Rattle.mb_instr.specs.declared.registers.Plain.{Plain}
 use Rattle.def_machine.specs.Machine.{Machine, takes_steps}
 use Rattle.def_runs.specs.Native.{NativeState}
 use Rattle.def_guests.specs.Turns.{Tally}
-use Rattle.def_guests.specs.Rounds.{Member, left, is_done, opened, Hosted, members_after, marks_after, round, all_done, left_of_all}
+use Rattle.def_guests.specs.Rounds.{Member, left, is_done, opened, Hosted, members_after, marks_after, exceptions_after, round, all_done, left_of_all}
 use Rattle.def_guests.specs.Rounds.{rounds, host_run, WholeTurns}
 use Rattle.def_guests.proofs.ByRule.{turns_by_rule}
 use Rattle.def_guests.proofs.Rounds.{rounds_end_all}
@@ -112,34 +112,37 @@ end_where slice h done = rounds_stay slice (left_of_all h.members) h done
 
 pub record SoFar (slice : ℕ) (first now : List Member) (old new : NativeState) : Type 0 where
   pub marks : List Plain
-  pub run : host_run slice (record { members = now; marks = marks }) ≡ after_rounds slice first
-  pub counts : AreCounted first now marks old new
+  pub left_times : ℕ
+  pub run : host_run slice (record { members = now; marks = marks; exceptions = left_times }) ≡ after_rounds slice first
+  pub counts : AreCounted first now marks left_times old new
   pub rises : RisesBy (left_of_all first) (left_of_all now) old new
 
 pub none_so_far : (slice : ℕ) (ms : List Member) (native : NativeState) → SoFar slice ms ms native native
-none_so_far slice ms native = record { marks = []; run = refl; counts = nothing_counted ms native; rises = (omega arith, omega arith) }
+none_so_far slice ms native = record { marks = []; left_times = 0; run = refl; counts = nothing_counted ms native; rises = (omega arith, omega arith) }
 
 pub one_round : (slice : ℕ) (first now next : List Member) (o p q : NativeState) → 1 ≤ slice → all_done now ≡ false
-    → next ≡ members_after slice now → SoFar slice first now o p → AreCounted now next (marks_after slice now) p q
+    → next ≡ members_after slice now → SoFar slice first now o p → AreCounted now next (marks_after slice now) (exceptions_after slice now) p q
     → RisesBy (left_of_all now) (left_of_all next) p q → SoFar slice first next o q
 one_round slice first now next o p q some more is far counts rises =
     let marks = far.marks ++ marks_after slice now in
+    let left_times = far.left_times + exceptions_after slice now in
     let a = far.rises.0 in let b = rises.0 in let c = far.rises.1 in let d = rises.1 in
     record {
       marks = marks;
-      run = ap (λ (ms : List Member). host_run slice (record { members = ms; marks = marks })) is
-          ∙ go_on slice (record { members = now; marks = far.marks }) some more ∙ far.run;
-      counts = counted_on first now next far.marks (marks_after slice now) o p q far.counts counts;
+      left_times = left_times;
+      run = ap (λ (ms : List Member). host_run slice (record { members = ms; marks = marks; exceptions = left_times })) is
+          ∙ go_on slice (record { members = now; marks = far.marks; exceptions = far.left_times }) some more ∙ far.run;
+      counts = counted_on first now next far.marks (marks_after slice now) far.left_times (exceptions_after slice now) o p q far.counts counts;
       rises = (omega arith, omega arith);
     }
 
 pub run_ends : (slice : ℕ) (first now : List Member) (o p : NativeState) → all_done now ≡ true → SoFar slice first now o p
-    → (now ≡ (after_rounds slice first).members) × AreCounted first now (after_rounds slice first).marks o p
+    → (now ≡ (after_rounds slice first).members) × AreCounted first now (after_rounds slice first).marks (after_rounds slice first).exceptions o p
 run_ends slice first now o p done far =
-    let h : Hosted = record { members = now; marks = far.marks } in
+    let h : Hosted = record { members = now; marks = far.marks; exceptions = far.left_times } in
     let same : h ≡ after_rounds slice first = sym (end_where slice h done) ∙ far.run in (
       ap (λ (x : Hosted). x.members) same,
-      subst (λ (marks : List Plain). AreCounted first now marks o p) (ap (λ (x : Hosted). x.marks) same) far.counts,
+      subst (λ (x : Hosted). AreCounted first now x.marks x.exceptions o p) same far.counts,
     )
 
 -- ---- room for what is left
@@ -182,10 +185,10 @@ whole_tallies (m ∷ ms) [] h = absurd h
 -- its machine is that of its own run, and so are its counts
 pub machines_end : (slice : ℕ) (ms : List Member) → 1 ≤ slice → machines_of (after_rounds slice ms).members ≡ map machine_at_end ms
 machines_end slice ms some =
-    let from : Hosted = record { members = ms; marks = [] } in
+    let from : Hosted = record { members = ms; marks = []; exceptions = 0 } in
     whole_machines ms (host_run slice from).members (rounds_end_all slice from some).whole
 
 pub tallies_end : (slice : ℕ) (ms : List Member) → 1 ≤ slice → tallies_of (after_rounds slice ms).members ≡ map tally_at_end ms
 tallies_end slice ms some =
-    let from : Hosted = record { members = ms; marks = [] } in
+    let from : Hosted = record { members = ms; marks = []; exceptions = 0 } in
     whole_tallies ms (host_run slice from).members (rounds_end_all slice from some).whole

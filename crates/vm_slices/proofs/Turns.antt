@@ -4,12 +4,13 @@ use Rattle.std.proofs.lemmas.Bool.{cases_Bool}
 use Rattle.def_machine.specs.Machine.{Entries, takes_steps}
 use Rattle.def_runs.specs.Marks.{trail}
 use Rattle.def_runs.specs.Native.{NativeState}
-use Rattle.def_guests.specs.Turns.{Turned, advanced, turn_of}
+use Rattle.def_guests.specs.Turns.{Turned, advanced, exits, turn_of}
 use Rattle.def_guests.specs.Seats.{Seat, turned_on, Takes}
 use Rattle.def_guests.specs.Rounds.{Member, left, opened, closed_by, turn_in}
 use Rattle.def_guests.proofs.TurnLaws.{halted_turn, going_turn, nothing_turned}
 use Rattle.vm_guest.specs.Turns.{scene, RisesByAtMost}
 use Rattle.vm_slices.specs.declared.host_guest.HostGuest.{HostGuest}
+use Rattle.def_guests.proofs.Counts.{exceptions_are_bounded}
 use Rattle.vm_slices.specs.Counting.{AreCounted}
 use Rattle.vm_slices.specs.Members.{after_turn}
 use Rattle.vm_slices.specs.Places.{member_of}
@@ -17,7 +18,7 @@ use Rattle.vm_slices.specs.Places.{member_of}
 -- what its turn of so many steps promises is its turn of a round
 pub record HasTaken (slice : ℕ) (m k : Member) (old new : NativeState) : Type 0 where
   pub turn : k ≡ after_turn slice m
-  pub counts : AreCounted (m ∷ []) (k ∷ []) (turn_in slice m).marks old new
+  pub counts : AreCounted (m ∷ []) (k ∷ []) (turn_in slice m).marks (turn_in slice m).exceptions old new
 
 turned_in : (slice steps : ℕ) (m : Member) (t : Turned) → steps ≡ min slice (left m) → t ≡ turn_of m.script steps (opened m) → t ≡ turn_in slice m
 turned_in slice steps m t is turned = turned ∙ ap (λ (n : ℕ). turn_of m.script n (opened m)) is
@@ -27,10 +28,14 @@ pub member_taken : (slice steps : ℕ) (g : HostGuest) (h : Seat) (x y : List �
     → HasTaken slice (member_of x g) (member_of y (record { guest = h; bound = g.bound })) old new
 member_taken slice steps g h x y old new is takes rises =
     let m = member_of x g in
-    let after = turned_on h y takes.marks in
+    let after = turned_on h y takes.marks takes.left_times in
     let same : after ≡ turn_in slice m = turned_in slice steps m after is takes.turned in
     let retired = takes.retired in
-    let exceptions = takes.exceptions in
+    let exceptions : new.exceptions ≡ old.exceptions + (turn_in slice m).exceptions =
+    takes.exceptions ∙ ap (λ (t : Turned). old.exceptions + t.exceptions) same in
+    let tallies : (turn_in slice m).tally ≡ h.tally = ap (λ (t : Turned). t.tally) (sym same) in
+    let least = (exceptions_are_bounded m.script (min slice (left m)) (opened m)).least in
+    let exits_are = ap exits tallies in
     let most = rises.1 in
     record {
       turn = ap (λ (s : Entries). (let k : Member = record { script = s; bound = g.bound; guest = after.guest; tally = after.tally } in k)) takes.same.script
@@ -38,7 +43,8 @@ member_taken slice steps g h x y old new is takes rises =
       counts = record {
         retired = omega arith;
         trail = takes.trail ∙ ap (λ (t : Turned). trail old.trail t.marks) same;
-        exceptions = omega arith;
+        exceptions = exceptions;
+        least = omega (arith, exceptions, least, exits_are);
         most = omega arith;
       };
     }

@@ -21,14 +21,18 @@ abbrev pub steps_by : List Member → ℕ
 steps_by [] = 0
 steps_by (m ∷ members) = m.guest.machine.steps + steps_by members
 
--- From some guests to them after some turns, whose retired steps have these marks.
-pub record AreCounted (before after : List Member) (marks : List Plain) (old new : NativeState) : Type 0 where
+-- From some guests to them after some turns, whose retired steps have these marks, and of which boards leave steps by
+-- so many exceptions.
+pub record AreCounted (before after : List Member) (marks : List Plain) (left_times : ℕ) (old new : NativeState) :
+    Type 0 where
   -- boards have carried out the retired steps
   pub retired : new.retired + retired_by before ≡ old.retired + retired_by after
   pub trail : new.trail ≡ trail old.trail marks
-  -- and left the privileged, trapped and denied ones, each by one exception or more
-  pub exceptions : old.exceptions + exits_by after ≤ new.exceptions + exits_by before
-  -- and by no more than 32 for each step that was taken
+  -- and left steps by exactly so many exceptions:
+  pub exceptions : new.exceptions ≡ old.exceptions + left_times
+  -- one or more for each privileged, trapped and denied step,
+  pub least : old.exceptions + exits_by after ≤ new.exceptions + exits_by before
+  -- and no more than 32 for each step that was taken
   pub most : new.exceptions + 32 * steps_by before ≤ old.exceptions + 32 * steps_by after
 
 -- So many steps more can be counted, each with as many exceptions as it may begin again by, and one more.

@@ -43,9 +43,9 @@ IsBounded m = m.bound < 2 ^ 32
 
 -- ---- all guests
 
--- after the rounds of a session, with the marks of all their turns
+-- after the rounds of a session, with the marks and exceptions of all their turns
 abbrev pub after_rounds : ℕ → List Member → Hosted
-after_rounds slice members = host_run slice (record { members = members; marks = [] })
+after_rounds slice members = host_run slice (record { members = members; marks = []; exceptions = 0 })
 
 -- their machines, what is counted of their steps, their devices, what they show, and their outcomes
 abbrev pub machines_of : List Member → List Machine

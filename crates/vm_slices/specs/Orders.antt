@@ -1,18 +1,20 @@
 -- Turns that are given in an order, each of at most so many steps and of no more than its guest has left.
-use Rattle.std.specs.Prelude.{ℕ, suc, ◌-◌, min, List, [], ◌∷◌, ◌++◌, map}
+use Rattle.std.specs.Prelude.{ℕ, suc, ◌+◌, ◌-◌, min, List, [], ◌∷◌, ◌++◌, map}
 use Rattle.mb_script.specs.declared.turn.Turn.{Turn}
 use Rattle.mb_model.specs.Keeping.{rule_k}
 use Rattle.def_machine.specs.Machine.{Machine, run_of}
 use Rattle.def_guests.specs.Stages.{Turns, steps_for}
 use Rattle.def_guests.specs.Rounds.{Member, Hosted, left}
 use Rattle.vm_slices.specs.Members.{after_rounds, after_turn}
-use Rattle.vm_slices.specs.Places.{marks_at, with_turn}
+use Rattle.vm_slices.specs.Places.{exceptions_at, marks_at, with_turn}
 
--- all guests after a turn of the one of its number, which counts from 1; the turn's marks stand behind those so far
+-- all guests after a turn of the one of its number, which counts from 1; the turn's marks stand behind those so far,
+-- and its exceptions are added
 abbrev pub given : Turn → Hosted → Hosted
 given turn h = record {
   members = with_turn turn.steps (turn.guest - 1) h.members;
   marks = h.marks ++ marks_at turn.steps (turn.guest - 1) h.members;
+  exceptions = h.exceptions + exceptions_at turn.steps (turn.guest - 1) h.members;
 }
 
 -- all guests after turns, one after the other
@@ -20,16 +22,16 @@ unfoldable pub in_order : List Turn → Hosted → Hosted
 in_order [] h = h
 in_order (turn ∷ turns) h = in_order turns (given turn h)
 
--- from guests whose marks are those of these turns alone
+-- from guests whose marks and exceptions are those of these turns alone
 abbrev pub after_order : List Turn → List Member → Hosted
-after_order turns members = in_order turns (record { members = members; marks = [] })
+after_order turns members = in_order turns (record { members = members; marks = []; exceptions = 0 })
 
--- Turns that are given, and then rounds, with the marks of all.
+-- Turns that are given, and then rounds, with the marks and exceptions of all.
 abbrev pub after_session : List Turn → (slice : ℕ) → List Member → Hosted
 after_session turns slice members =
     let turned = after_order turns members in
     let after = after_rounds slice turned.members in
-    record after { marks = turned.marks ++ after.marks }
+    record after { marks = turned.marks ++ after.marks; exceptions = turned.exceptions + after.exceptions }
 
 -- ---- what comes of them
 

@@ -48,6 +48,12 @@ marks_at slice place [] = []
 marks_at slice zero (m ∷ members) = (turn_in slice m).marks
 marks_at slice (suc place) (m ∷ members) = marks_at slice place members
 
+-- and its exceptions
+abbrev pub exceptions_at : (slice place : ℕ) → List Member → ℕ
+exceptions_at slice place [] = 0
+exceptions_at slice zero (m ∷ members) = (turn_in slice m).exceptions
+exceptions_at slice (suc place) (m ∷ members) = exceptions_at slice place members
+
 -- members of which the one at a place is another
 abbrev pub with_member : (place : ℕ) → (Member → Member) → List Member → List Member
 with_member place change [] = []

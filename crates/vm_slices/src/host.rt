@@ -3,7 +3,7 @@
 ghost use Rattle.std.specs.Prelude.{◌≡◌, ◌+◌, ◌-◌, ◌^◌, ◌<◌, ◌≤◌, length, map, true, Some, IfOk, IfErr, IfSome, All};
 ghost use Rattle.mb_model.specs.Seen.{seen_of};
 ghost use Rattle.def_guests.specs.declared.limits.TheConstants.{MONITOR_BYTES};
-ghost use Rattle.def_guests.specs.Rounds.{all_done, left_of_all, members_after, marks_after};
+ghost use Rattle.def_guests.specs.Rounds.{all_done, left_of_all, members_after, marks_after, exceptions_after};
 ghost use Rattle.vm_guest.specs.Session.{IsGuest, IsSession};
 ghost use Rattle.vm_slices.specs.declared.open_fault.OpenFault.TheVariants as open_fault;
 ghost use Rattle.vm_slices.specs.Fit.{need_of, Fits};
@@ -15,7 +15,7 @@ ghost use Rattle.vm_slices.specs.Counting.{AreCounted, HasRoom, RisesBy};
 ghost use Rattle.vm_slices.specs.Members.{member_at_start, machine_at_end, tally_at_end, after_rounds, IsBounded};
 ghost use Rattle.vm_slices.specs.Members.{machines_of, tallies_of, devices_of, shown_of, numbered};
 ghost use Rattle.vm_slices.specs.Orders.{after_order, each_given, machines_given};
-ghost use Rattle.vm_slices.specs.Places.{marks_at, members_in, members_of, with_turn, StandFrom};
+ghost use Rattle.vm_slices.specs.Places.{exceptions_at, marks_at, members_in, members_of, with_turn, StandFrom};
 
 use crate::fit::judge_fit;
 use crate::host_guest::HostGuest;
@@ -119,7 +119,8 @@ impl Host {
         requires room { HasRoom (left_of_all (members_in self.old)) native.old }
         ensures members { members_in self.new ≡ members_after self.old.slice (members_in self.old) }
         ensures counts { AreCounted (members_in self.old) (members_in self.new)
-            (marks_after self.old.slice (members_in self.old)) native.old native.new }
+            (marks_after self.old.slice (members_in self.old))
+            (exceptions_after self.old.slice (members_in self.old)) native.old native.new }
         ensures slice { self.new.slice ≡ self.old.slice }
         ensures rises { RisesBy (left_of_all (members_in self.old)) (left_of_all (members_in self.new))
             native.old native.new }
@@ -133,7 +134,8 @@ impl Host {
         requires room { HasRoom (left_of_all (members_in self.old)) native.old }
         ensures turn { members_in self.new ≡ with_turn turn.steps (turn.guest - 1) (members_in self.old) }
         ensures counts { AreCounted (members_in self.old) (members_in self.new)
-            (marks_at turn.steps (turn.guest - 1) (members_in self.old)) native.old native.new }
+            (marks_at turn.steps (turn.guest - 1) (members_in self.old))
+            (exceptions_at turn.steps (turn.guest - 1) (members_in self.old)) native.old native.new }
         ensures slice { self.new.slice ≡ self.old.slice }
         ensures rises { RisesBy (left_of_all (members_in self.old)) (left_of_all (members_in self.new))
             native.old native.new }
@@ -152,7 +154,8 @@ impl Host {
         ensures each { members_in self.new ≡ each_given turns.now 1 (members_in self.old) }
         ensures machines { machines_of (members_in self.new) ≡ machines_given turns.now 1 (members_in self.old) }
         ensures counts { AreCounted (members_in self.old) (members_in self.new)
-            (after_order turns.now (members_in self.old)).marks native.old native.new }
+            (after_order turns.now (members_in self.old)).marks
+            (after_order turns.now (members_in self.old)).exceptions native.old native.new }
         ensures machine_ends { map machine_at_end (members_in self.new) ≡ map machine_at_end (members_in self.old) }
         ensures tally_ends { map tally_at_end (members_in self.new) ≡ map tally_at_end (members_in self.old) }
         ensures few { (native.new.retired ≤ native.old.retired + 2 ^ 36)
@@ -173,7 +176,8 @@ impl Host {
         ensures machines { machines_of (members_in self.new) ≡ map machine_at_end (members_in self.old) }
         ensures tallies { tallies_of (members_in self.new) ≡ map tally_at_end (members_in self.old) }
         ensures counts { AreCounted (members_in self.old) (members_in self.new)
-            (after_rounds self.old.slice (members_in self.old)).marks native.old native.new }
+            (after_rounds self.old.slice (members_in self.old)).marks
+            (after_rounds self.old.slice (members_in self.old)).exceptions native.old native.new }
         ensures few { (native.new.retired ≤ native.old.retired + 2 ^ 36)
             × (native.new.exceptions ≤ native.old.exceptions + 2 ^ 41) }
         ensures done { all_done (members_in self.new) ≡ true }

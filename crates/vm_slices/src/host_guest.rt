@@ -90,7 +90,8 @@ impl HostGuest {
             ≡ after_turn slice (member_of board.old.world.ram self.old) }
         ensures counts { AreCounted (member_of board.old.world.ram self.old ∷ [])
             (member_of board.new.world.ram self.new ∷ [])
-            (turn_in slice (member_of board.old.world.ram self.old)).marks native.old native.new }
+            (turn_in slice (member_of board.old.world.ram self.old)).marks
+            (turn_in slice (member_of board.old.world.ram self.old)).exceptions native.old native.new }
         ensures rises { RisesBy (left (member_of board.old.world.ram self.old))
             (left (member_of board.new.world.ram self.new)) native.old native.new }
         ensures same { IsSame self.old.guest self.new.guest }

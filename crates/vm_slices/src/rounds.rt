@@ -2,10 +2,10 @@
 
 ghost use Rattle.std.specs.Prelude.{◌≡◌, ◌≢◌, ℕ, ◌<◌, length, slice_get, All};
 ghost use Rattle.def_guests.specs.declared.limits.TheConstants.{MONITOR_BYTES};
-ghost use Rattle.def_guests.specs.Rounds.{all_done, left_of_all, members_after, marks_after};
+ghost use Rattle.def_guests.specs.Rounds.{all_done, left_of_all, members_after, marks_after, exceptions_after};
 ghost use Rattle.vm_slices.specs.Counting.{AreCounted, HasRoom, RisesBy};
 ghost use Rattle.vm_slices.specs.Members.{IsBounded};
-ghost use Rattle.vm_slices.specs.Places.{members_of, with_turn, marks_at, StandFrom};
+ghost use Rattle.vm_slices.specs.Places.{members_of, with_turn, exceptions_at, marks_at, StandFrom};
 
 use crate::host_guest::HostGuest;
 use mb_board::{Board, Native};
@@ -27,7 +27,8 @@ pub(crate) fn take_turn(
     ensures others { (other : ℕ) → other ≢ place → slice_get (members_of guests.new board.new.world.ram) other
         ≡ slice_get (members_of guests.old board.old.world.ram) other }
     ensures counts { AreCounted (members_of guests.old board.old.world.ram) (members_of guests.new board.new.world.ram)
-        (marks_at slice place (members_of guests.old board.old.world.ram)) native.old native.new }
+        (marks_at slice place (members_of guests.old board.old.world.ram))
+        (exceptions_at slice place (members_of guests.old board.old.world.ram)) native.old native.new }
     ensures stand { StandFrom MONITOR_BYTES guests.new board.new.world.ram }
     ensures bounds { All IsBounded (members_of guests.new board.new.world.ram) }
     ensures rises { RisesBy (left_of_all (members_of guests.old board.old.world.ram))
@@ -49,7 +50,8 @@ pub(crate) fn take_round(
     ensures members { members_of guests.new board.new.world.ram
         ≡ members_after slice (members_of guests.old board.old.world.ram) }
     ensures counts { AreCounted (members_of guests.old board.old.world.ram) (members_of guests.new board.new.world.ram)
-        (marks_after slice (members_of guests.old board.old.world.ram)) native.old native.new }
+        (marks_after slice (members_of guests.old board.old.world.ram))
+        (exceptions_after slice (members_of guests.old board.old.world.ram)) native.old native.new }
     ensures stand { StandFrom MONITOR_BYTES guests.new board.new.world.ram }
     ensures bounds { All IsBounded (members_of guests.new board.new.world.ram) }
     ensures rises { RisesBy (left_of_all (members_of guests.old board.old.world.ram))

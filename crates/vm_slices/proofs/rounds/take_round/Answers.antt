@@ -1,10 +1,10 @@
-use Rattle.std.proofs.Common.{◌≡◌, ◌∙◌, ℕ, suc, ◌+◌, List, ◌++◌, length, ap, sym, subst, arith, rules}
+use Rattle.std.proofs.Common.{◌≡◌, ◌∙◌, ℕ, suc, ◌+◌, ◌++◌, List, length, ap, sym, arith, rules}
 use Rattle.std.proofs.lemmas.List.{length-map}
-use Rattle.mb_instr.specs.declared.registers.Plain.{Plain}
 use Rattle.def_guests.specs.Rounds.{Member, left_of_all}
-use Rattle.vm_slices.specs.Counting.{AreCounted}
-use Rattle.vm_slices.specs.Places.{member_of, members_of, marks_at, with_turn}
-use Rattle.vm_slices.proofs.Places.{first_turned, first_marks, none_turned, one_more, all_turned, no_marks, more_marks, all_marks, counted_on, nothing_counted}
+use Rattle.vm_slices.specs.Places.{member_of, members_of, exceptions_at, marks_at, with_turn}
+use Rattle.vm_slices.proofs.Places.{first_turned, first_marks, none_turned, one_more, all_turned, no_marks, more_marks, all_marks, counted_as, counted_on}
+use Rattle.vm_slices.proofs.Places.{nothing_counted}
+use Rattle.vm_slices.proofs.Places.{first_exceptions, no_exceptions, more_exceptions, all_exceptions}
 use Rattle.vm_slices.proofs.RoundLaws.{room_after}
 use Rattle.vm_slices.proofs.rounds.take_round.Goals as goal
 
@@ -12,8 +12,7 @@ pub loop-place-init : goal.loop-place-init
 loop-place-init c =
     let all = members_of c.args.guests.now c.args.board.now.world.ram in record {
       turned = sym (none_turned c.args.slice all);
-      counts = subst (λ (marks : List Plain). AreCounted all all marks c.args.native.now c.args.native.now) (sym (no_marks c.args.slice all))
-          (nothing_counted all c.args.native.now);
+      counts = counted_as (sym (no_marks c.args.slice all)) (sym (no_exceptions c.args.slice all)) (nothing_counted all c.args.native.now);
       bounds = search rules;
       rises = (omega arith, omega arith);
       stand = search rules;
@@ -29,11 +28,15 @@ loop-place-preserved c =
     let more : suc place ≡ place + 1 = omega arith in
     let marks : first_marks slice place all ++ marks_at slice place now ≡ first_marks slice (place + 1) all =
     ap (λ (ms : List Member). first_marks slice place all ++ marks_at slice place ms) c.loop-place.invariant.turned
-    ∙ more_marks slice place all ∙ ap (λ (n : ℕ). first_marks slice n all) more in record {
+    ∙ more_marks slice place all ∙ ap (λ (n : ℕ). first_marks slice n all) more in
+    let exceptions : first_exceptions slice place all + exceptions_at slice place now ≡ first_exceptions slice (place + 1) all =
+    ap (λ (ms : List Member). first_exceptions slice place all + exceptions_at slice place ms) c.loop-place.invariant.turned
+    ∙ more_exceptions slice place all ∙ ap (λ (n : ℕ). first_exceptions slice n all) more in record {
       turned = c.take_turn.ensures.turn ∙ ap (with_turn slice place) c.loop-place.invariant.turned ∙ one_more slice place all
           ∙ ap (λ (n : ℕ). first_turned slice n all) more;
-      counts = subst (λ (ks : List Plain). AreCounted all next ks c.args.native.now c.take_turn.new.native) marks
-          (counted_on all now next (first_marks slice place all) (marks_at slice place now) c.args.native.now c.loop-place.native c.take_turn.new.native
+      counts = counted_as marks exceptions
+          (counted_on all now next (first_marks slice place all) (marks_at slice place now) (first_exceptions slice place all)
+          (exceptions_at slice place now) c.args.native.now c.loop-place.native c.take_turn.new.native
           c.loop-place.invariant.counts c.take_turn.ensures.counts);
       bounds = search rules;
       rises =
@@ -62,5 +65,5 @@ returns-clause-counts c =
     let all = members_of gs c.args.board.now.world.ram in
     let count : length all ≡ length gs = length-map gs (member_of c.args.board.now.world.ram) in
     let end : c.loop-place.place ≡ length all = omega arith in
-    subst (λ (marks : List Plain). AreCounted all (members_of c.loop-place.guests c.loop-place.board.world.ram) marks c.args.native.now c.loop-place.native)
-    (ap (λ (n : ℕ). first_marks c.args.slice n all) end ∙ all_marks c.args.slice all) c.loop-place.invariant.counts
+    counted_as (ap (λ (n : ℕ). first_marks c.args.slice n all) end ∙ all_marks c.args.slice all)
+    (ap (λ (n : ℕ). first_exceptions c.args.slice n all) end ∙ all_exceptions c.args.slice all) c.loop-place.invariant.counts

@@ -6,7 +6,7 @@ use Rattle.def_guests.specs.Rounds.{Member, left, left_of_all}
 use Rattle.vm_slices.specs.declared.host_guest.HostGuest.{HostGuest}
 use Rattle.vm_slices.specs.Counting.{AreCounted, HasRoom, RisesBy}
 use Rattle.vm_slices.specs.Members.{after_turn, IsBounded}
-use Rattle.vm_slices.specs.Places.{member_of, members_of, marks_at, with_turn, StandFrom}
+use Rattle.vm_slices.specs.Places.{member_of, members_of, exceptions_at, marks_at, with_turn, StandFrom}
 use Rattle.vm_slices.proofs.Places.{Turn, own_by, seated_at, member_room, changed_at, turn_of_one, other_stays}
 use Rattle.vm_slices.proofs.rounds.take_turn.Goals as goal
 
@@ -60,7 +60,8 @@ returns-clause-stand c = (stands c).0
 pub returns-clause-counts : goal.returns-clause-counts
 returns-clause-counts c =
     let ms = members_of c.args.guests.now c.args.board.now.world.ram in
-    subst (λ (ks : List Member). AreCounted ms ks (marks_at c.args.slice c.args.place ms) c.args.native.now c.take_turn.new.native)
+    subst (λ (ks : List Member). AreCounted ms ks (marks_at c.args.slice c.args.place ms)
+    (exceptions_at c.args.slice c.args.place ms) c.args.native.now c.take_turn.new.native)
     (sym (stands c).1) (turned c).counts
 
 pub returns-clause-bounds : goal.returns-clause-bounds

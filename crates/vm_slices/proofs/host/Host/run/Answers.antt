@@ -1,5 +1,5 @@
 use Rattle.std.proofs.Common.{◌≡◌, ◌∙◌, ℕ, ◌<◌, List, true, false, refl, ap, sym, subst, arith}
-use Rattle.def_guests.specs.Rounds.{Member, all_done, left_of_all, marks_after, members_after}
+use Rattle.def_guests.specs.Rounds.{Member, all_done, left_of_all, marks_after, exceptions_after, members_after}
 use Rattle.vm_slices.specs.Counting.{AreCounted}
 use Rattle.vm_slices.specs.Places.{HostState, members_in}
 use Rattle.vm_slices.specs.Members.{machines_of, tallies_of}
@@ -44,7 +44,8 @@ loop-self-preserved c =
       far = one_round first.slice (members_in first) (members_in s) (members_in c.take_round.new.self) c.args.native.now c.loop-self.native
           c.take_round.new.native (omega (arith, slice, some)) more
           (after.members ∙ ap (λ (n : ℕ). members_after n (members_in s)) slice) c.loop-self.invariant.far
-          (subst (λ (n : ℕ). AreCounted (members_in s) (members_in c.take_round.new.self) (marks_after n (members_in s)) c.loop-self.native
+          (subst (λ (n : ℕ). AreCounted (members_in s) (members_in c.take_round.new.self) (marks_after n (members_in s))
+          (exceptions_after n (members_in s)) c.loop-self.native
           c.take_round.new.native) slice after.counts) after.rises;
       slice = after.slice ∙ slice;
       again = λ done. absurd (

@@ -48,7 +48,7 @@ ended : (c : goal.After-loop-turn) → members_in c.loop-turn.self ≡ each_give
 ended c =
     let first = members_in c.args.self.now in
     (order_ends c.args.turns.now first (members_in c.loop-turn.self) c.args.native.now c.loop-turn.native (far c)).0
-    ∙ order_given c.args.turns.now (record { members = first; marks = [] }) (λ k d less. (c.requires.turns k d less).0)
+    ∙ order_given c.args.turns.now (record { members = first; marks = []; exceptions = 0 }) (λ k d less. (c.requires.turns k d less).0)
 
 pub returns-clause-order : goal.returns-clause-order
 returns-clause-order c =
