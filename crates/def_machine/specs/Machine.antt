@@ -11,8 +11,9 @@ use Rattle.mb_model.specs.Keeping.{Rule, nothing_kept}
 use Rattle.mb_model.specs.Reset.{at_reset, mmu_at_reset}
 use Rattle.mb_model.specs.Seen.{Seen}
 use Rattle.def_processor.specs.declared.Finish.{Finish}
-use Rattle.def_processor.specs.declared.Finish.TheVariants as finish
-use Rattle.def_processor.specs.Raise.{Stepped}
+use Rattle.def_processor.specs.declared.StepEnd.{StepEnd}
+use Rattle.def_processor.specs.declared.StepEnd.TheVariants as step
+use Rattle.def_processor.specs.Raise.{Stepped, step_end}
 use Rattle.def_processor.specs.Step.{step_of}
 use Rattle.mb_devices.specs.Devices.{DeviceState, idle, level_of, received, ticked}
 use Rattle.mb_devices.specs.Registers.{status_of}
@@ -119,14 +120,14 @@ abbrev pub going : Cpu → DeviceState → RunState
 going cpu d = if d.off then Off else if cpu.stopped then Stopped else Running
 
 -- the state after a step that ended so: a step that halts leaves it halted, also where it switches off
-abbrev pub state_after : Finish → Cpu → DeviceState → RunState
-state_after finish.Halted cpu d = Halted
+abbrev pub state_after : StepEnd → Cpu → DeviceState → RunState
+state_after step.Halted cpu d = Halted
 state_after _ cpu d = going cpu d
 
 -- the machine one step later, with the processor and the world that the step left
 abbrev pub one_later : Machine → Finish → Cpu → World → Machine
 one_later m ended cpu w =
-    record { cpu = cpu; world = w; steps = m.steps + 1; state = state_after ended cpu w.devices }
+    record { cpu = cpu; world = w; steps = m.steps + 1; state = state_after (step_end ended) cpu w.devices }
 
 abbrev pub with_finish : Machine → Stepped × World → Finish × Machine
 with_finish m ((ended, cpu), w) = (ended, one_later m ended cpu w)

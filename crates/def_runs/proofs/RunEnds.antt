@@ -5,6 +5,7 @@ use Rattle.mb_instr.specs.Registers.{is_supervisor}
 use Rattle.mb_model.specs.Keeping.{rule_a}
 use Rattle.def_processor.specs.declared.Finish.{Finish}
 use Rattle.def_processor.specs.declared.Finish.TheVariants as finish
+use Rattle.def_processor.specs.Raise.{step_end}
 use Rattle.def_machine.specs.Machine.{Machine, processed, begun, takes_steps, state_after}
 use Rattle.def_runs.specs.declared.RunEnd.{RunEnd}
 use Rattle.def_runs.specs.declared.RunEnd.TheVariants.{Counted, Exit, Gone}
@@ -34,7 +35,7 @@ halted_by m after f s h =
     let r = processed rule_a [] (begun [] m) in
     let of_step : r.0.0 ≡ finish.Halted = ap (λ (x : Finish × Machine). x.0) s ∙ h in
     ap (λ (x : Finish × Machine). takes_steps x.1.state) (sym s)
-    ∙ ap (λ (x : Finish). takes_steps (state_after x r.0.1 r.1.devices)) of_step
+    ∙ ap (λ (x : Finish). takes_steps (state_after (step_end x) r.0.1 r.1.devices)) of_step
 
 -- what a step says behind which the run goes on
 pub record GoesOn (f : Finish) (r : Ran) (after : Machine) : Type 0 where

@@ -36,7 +36,7 @@ use Rattle.def_machine.specs.Machine.{Machine, begun, arrived, state_after, take
 use Rattle.def_machine.specs.Enters.{IsUntranslated, HasRoom, supervising}
 use Rattle.law_attempts.specs.Attempts.{IsUntraced, NoOther, fetched_by}
 use Rattle.mb_walk.proofs.Parts.{drop-over}
-use Rattle.def_processor.specs.Raise.{Stepped}
+use Rattle.def_processor.specs.Raise.{Stepped, step_end}
 use Rattle.law_tells.specs.Laws.{moves_fetched}
 use Rattle.law_leave.specs.Exits.{left, Exit, exit_of, IsEnd, IsBelow}
 use Rattle.vm_shadow.specs.Mapped.{root_of}
@@ -222,7 +222,7 @@ goes_on_in x level i guest g plain seven regs sound masked other space here =
 
 -- on and awake, it goes on behind an exception
 entered_after : (vector : ℕ) (cpu : Cpu) (d : DeviceState) → d.off ≡ false → cpu.stopped ≡ false
-    → takes_steps (state_after (finish.Entered vector) cpu d) ≡ true
+    → takes_steps (state_after (step_end (finish.Entered vector)) cpu d) ≡ true
 entered_after vector cpu d h k = rw h (rw k refl)
 
 is_tried : (c : Class) → IsExitClass c → IsTried c

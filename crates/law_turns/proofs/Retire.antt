@@ -17,7 +17,7 @@ use Rattle.def_processor.specs.declared.Finish.TheVariants as finish
 use Rattle.def_instructions.specs.Ends.{End}
 use Rattle.def_processor.specs.SystemEnds.{with_registers}
 use Rattle.def_instructions.specs.Attempt.{attempt_of}
-use Rattle.def_processor.specs.Raise.{Stepped, traces_all, traces_flow}
+use Rattle.def_processor.specs.Raise.{Stepped, traces_all, traces_flow, step_end}
 use Rattle.def_processor.specs.Step.{interrupt_mask, step_of, rank}
 use Rattle.mb_devices.specs.Devices.{DeviceState, ticked, level_of, has_received, received}
 use Rattle.mb_devices.specs.declared.devices.TheConstants.{QUEUE_ROOM}
@@ -177,7 +177,7 @@ off_arrived n (entry ∷ script) d = off_arrived n script (cond (entry.step == n
 running_after : (cpu : Cpu) (d : DeviceState) → d.off ≡ false → cpu.stopped ≡ false → going cpu d ≡ Running
 running_after cpu d h k = rw h (rw k refl)
 
-pub goes_after : (cpu : Cpu) (d : DeviceState) → d.off ≡ false → cpu.stopped ≡ false → takes_steps (state_after finish.Went cpu d) ≡ true
+pub goes_after : (cpu : Cpu) (d : DeviceState) → d.off ≡ false → cpu.stopped ≡ false → takes_steps (state_after (step_end finish.Went) cpu d) ≡ true
 goes_after cpu d h k = rw h (rw k refl)
 
 -- the board one step later, with what the processor's part left

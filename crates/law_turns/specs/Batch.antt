@@ -14,7 +14,7 @@ use Rattle.def_runs.specs.Marks.{trail}
 use Rattle.def_runs.specs.Native.{Ran, user_run}
 use Rattle.law_turns.specs.Retire.{Boarded, HasRegisters}
 use Rattle.law_turns.specs.Exit.{Furnished, Leaves}
-use Rattle.law_turns.specs.Within.{OnlyBetween}
+use Rattle.vm_shadow.specs.Area.{OnlyBetween}
 
 -- What the law on one step wants of the guest.
 pub record Wanted (g : Guested) : Type 0 where

@@ -5,7 +5,6 @@ pub mod Lawful
 pub mod Reads
 pub mod Exit
 pub mod Refill
-pub mod Within
 pub mod Batch
 pub mod Quiet
 pub mod Idle

@@ -9,7 +9,7 @@ use Rattle.mb_model.specs.Keeping.{Rule}
 use Rattle.mb_devices.specs.Devices.{DeviceState, ticked, ticks, passed, level_of, IsNotDue}
 use Rattle.mb_devices.proofs.Passing.{ticks_pass}
 use Rattle.def_processor.specs.declared.Finish.TheVariants as finish
-use Rattle.def_processor.specs.Raise.{Stepped, interrupt_of}
+use Rattle.def_processor.specs.Raise.{Stepped, interrupt_of, step_end}
 use Rattle.def_processor.specs.Step.{interrupt_mask, execute_next_of, rank, step_of}
 use Rattle.def_machine.specs.Bus.{bus_of}
 use Rattle.def_machine.specs.Machine.{Machine, run_of, state_after, stepped, takes_steps, with_finish}
@@ -35,7 +35,7 @@ idles level cpu masked stopped =
     chosen (nat_lt (interrupt_mask cpu) (rank level)) cpu.stopped (interrupt_of level cpu) (Return (finish.Idle, cpu)) (execute_next_of cpu)
     (not_above (interrupt_mask cpu) (rank level) masked) stopped
 
-stays_stopped : (cpu : Cpu) (d : DeviceState) → d.off ≡ false → cpu.stopped ≡ true → state_after finish.Idle cpu d ≡ Stopped
+stays_stopped : (cpu : Cpu) (d : DeviceState) → d.off ≡ false → cpu.stopped ≡ true → state_after (step_end finish.Idle) cpu d ≡ Stopped
 stays_stopped cpu d on stopped = second d.off cpu.stopped Off Stopped Running on stopped
 
 off_by : (a b : Bool) (d e f : DeviceState) → e.off ≡ d.off → f.off ≡ d.off → (cond a d (cond b e f)).off ≡ d.off

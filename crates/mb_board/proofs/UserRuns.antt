@@ -6,7 +6,7 @@ use Rattle.mb_instr.specs.Registers.{is_supervisor, plain_of}
 use Rattle.mb_model.specs.Keeping.{rule_a}
 use Rattle.mb_model.specs.declared.outcome.RunState.{RunState}
 use Rattle.mb_devices.specs.Devices.{DeviceState, ticked}
-use Rattle.def_processor.specs.Raise.{Stepped}
+use Rattle.def_processor.specs.Raise.{Stepped, step_end}
 use Rattle.def_processor.specs.declared.Finish.{Finish}
 use Rattle.def_processor.specs.declared.Finish.TheVariants as finish
 use Rattle.def_machine.specs.World.{World}
@@ -117,7 +117,7 @@ ended_with m x = let (ended, after) = with_finish m x in (ended, record after { 
 
 pub quick_step : (m after : Machine) → ticked m.world.devices ≡ m.world.devices
     → processed rule_a [] m ≡ ((finish.Went, after.cpu), after.world) → after.steps ≡ m.steps
-    → after.state ≡ state_after finish.Went after.cpu after.world.devices → (finish.Went, after) ≡ user_step m
+    → after.state ≡ state_after (step_end finish.Went) after.cpu after.world.devices → (finish.Went, after) ≡ user_step m
 quick_step m after still means steps state =
     ap (λ (n : ℕ). (let r : Finish × Machine = (finish.Went, record after { steps = n }) in r)) steps
     ∙ ap (λ (s : RunState). (let r : Finish × Machine = (finish.Went, record after { steps = m.steps; state = s }) in r)) state

@@ -1,2 +1,2 @@
 -- A board's memory, of which a guest's part is changed.
-pub use Rattle.law_turns.specs.Within.{OnlyBetween}
+pub use Rattle.vm_shadow.specs.Area.{OnlyBetween}

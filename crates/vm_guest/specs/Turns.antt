@@ -3,12 +3,9 @@ use Rattle.std.specs.Prelude.{◌≡◌, ℕ, ◌+◌, ◌*◌, ◌≤◌, List}
 use Rattle.mb_model.specs.Keeping.{rule_a, rule_k}
 use Rattle.mb_model.specs.declared.outcome.RunState.{RunState}
 use Rattle.mb_model.specs.declared.outcome.RunState.TheVariants as state
-use Rattle.mb_model.specs.declared.processor.Cpu.{Cpu}
 use Rattle.mb_devices.specs.Devices.{DeviceState, ticked, restarted}
-use Rattle.def_processor.specs.declared.StepEnd.{StepEnd}
-use Rattle.def_processor.specs.declared.StepEnd.TheVariants as step
-use Rattle.def_processor.specs.Raise.{Stepped}
-use Rattle.def_machine.specs.Machine.{Opening, Entries, Machine, arrived, going, reset_with, run_of, start, asked}
+use Rattle.def_processor.specs.Raise.{Stepped, step_end}
+use Rattle.def_machine.specs.Machine.{Opening, Entries, Machine, arrived, reset_with, run_of, start, asked}
 use Rattle.def_machine.specs.Machine.{state_after}
 use Rattle.mb_board.specs.State.{BoardState, board_at_reset}
 use Rattle.def_runs.specs.Free.{rule_free, FreeRun, Within}
@@ -50,15 +47,10 @@ ended_at steps ((ended, cpu), after) = record {
     cpu = cpu;
     world = after.world;
     steps = steps;
-    state = state_after ended cpu after.world.devices;
+    state = state_after (step_end ended) cpu after.world.devices;
   };
   shadow = after.shadow;
 }
-
--- its state then
-abbrev pub state_by : StepEnd → Cpu → DeviceState → RunState
-state_by step.Halted cpu d = state.Halted
-state_by _ cpu d = going cpu d
 
 -- a guest, a board's memory, and what boards have counted
 abbrev pub scene : Seat → List ℕ → NativeState → Scene

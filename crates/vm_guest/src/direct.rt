@@ -26,10 +26,9 @@ use crate::classes::{assisted, class_of_vector};
 use crate::guest::Guest;
 use crate::readying::{make_ready, set_registers};
 use crate::rest::Rest;
-use crate::stepping::state_by;
 use def_guests::{Class, MOST_REFILLS};
 use def_processor::StepEnd;
-use mb_board::{Board, Native, RunEnd};
+use mb_board::{Board, Native, RunEnd, state_after};
 use mb_devices::Devices;
 use mb_frames::{Frame, LONGEST, from_bytes};
 use mb_instr::{Plain, Regs};
@@ -246,7 +245,7 @@ impl Guest {
         self.devices.pass(more);
         self.steps += more;
         self.counts.add_idle(more + 1);
-        self.state = state_by(StepEnd::Idle, &self.cpu, &self.devices);
+        self.state = state_after(StepEnd::Idle, &self.cpu, &self.devices);
     }
 
     /// Takes the next step, and as many behind it as the board may carry out together with it, or as are idle with it,

@@ -10,35 +10,16 @@ ghost use Rattle.def_guests.specs.Seats.{end_of, guested_on, IsSame, IsSeated};
 ghost use Rattle.vm_guest.specs.Memory.{OnlyBetween};
 ghost use Rattle.vm_guest.specs.Rests.{rest_in, IsLawfulRest};
 ghost use Rattle.law_turns.specs.Taking.{settled};
-ghost use Rattle.vm_guest.specs.Turns.{begun_seat, ended_at, level_on, processed, state_by};
+ghost use Rattle.vm_guest.specs.Turns.{begun_seat, ended_at, level_on, processed};
 
 use crate::guest::Guest;
 use crate::rest::Rest;
 use def_guests::Class;
 use def_processor::StepEnd;
-use mb_board::{Board, receive};
-use mb_devices::Devices;
-use mb_model::{Cpu, NON_MASKABLE, RunState};
+use mb_board::{Board, receive, state_after};
+use mb_model::{NON_MASKABLE, RunState};
 use mb_walk::Ram;
 use vm_port::GuestPort;
-
-/// The state of a guest after a step that ended so, with the processor and the devices that it left.
-pub(crate) fn state_by(end: StepEnd, cpu: &Cpu, devices: &Devices) -> RunState
-    ensures { result ≡ state_by end cpu.now devices.now }
-{
-    match end {
-        StepEnd::Halted => RunState::Halted,
-        StepEnd::Went | StepEnd::Idle => {
-            if devices.is_off() {
-                RunState::Off
-            } else if cpu.stopped {
-                RunState::Stopped
-            } else {
-                RunState::Running
-            }
-        }
-    }
-}
 
 impl Guest {
     /// A step begins: what is due at it arrives, and the timer ticks. Gives the interrupt level that it is asked for.
@@ -66,7 +47,7 @@ impl Guest {
     pub(crate) fn settle(&mut self)
         ensures { self.new ≡ settled self.old }
     {
-        self.state = state_by(StepEnd::Went, &self.cpu, &self.devices);
+        self.state = state_after(StepEnd::Went, &self.cpu, &self.devices);
     }
 
     /// What is left of the processor's part of a step, over the guest's bus.
@@ -115,7 +96,7 @@ impl Guest {
         ensures others { but_ram board.new ≡ but_ram board.old }
     {
         let end = self.process(board, rest, level);
-        self.state = state_by(end, &self.cpu, &self.devices);
+        self.state = state_after(end, &self.cpu, &self.devices);
         self.counts.add(class);
     }
 }

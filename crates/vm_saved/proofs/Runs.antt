@@ -6,6 +6,7 @@ use Rattle.mb_model.specs.declared.processor.Cpu.{Cpu}
 use Rattle.mb_devices.specs.Devices.{DeviceState}
 use Rattle.def_processor.specs.declared.Finish.{Finish}
 use Rattle.def_processor.specs.declared.Finish.TheVariants as finish
+use Rattle.def_processor.specs.Raise.{step_end}
 use Rattle.def_machine.specs.Machine.{Entries, Machine, begun, going, processed, reset_with, run_of, state_after, stepped, takes_steps}
 use Rattle.vm_saved.specs.Begins.{RunsAdd, HaltedRunsStay, GoingRunsCount, RunsCount, IsGoing, RunsAreGoing, StartsAreGoing}
 
@@ -73,8 +74,8 @@ runs_count rule script (suc n) m = elim (cases_Bool (takes_steps m.state)) [
 
 -- ---- what their state says
 
-state_goes : (ended : Finish) (cpu : Cpu) (d : DeviceState) → takes_steps (state_after ended cpu d) ≡ true
-    → state_after ended cpu d ≡ going cpu d
+state_goes : (ended : Finish) (cpu : Cpu) (d : DeviceState) → takes_steps (state_after (step_end ended) cpu d) ≡ true
+    → state_after (step_end ended) cpu d ≡ going cpu d
 state_goes finish.Went cpu d h = refl
 state_goes (finish.Entered vector) cpu d h = refl
 state_goes finish.Idle cpu d h = refl

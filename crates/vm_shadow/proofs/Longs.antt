@@ -10,7 +10,7 @@ use Rattle.byteorder.specs.Endian.{big_bytes}
 use Rattle.byteorder.specs.Numbers.{length-bytes_high_first}
 use Rattle.mb_walk.specs.Memory.{with_number}
 use Rattle.mb_walk.proofs.LongLemmas.{long_same, long_other}
-use Rattle.vm_shadow.specs.Area.{longs, OutsideStays}
+use Rattle.vm_shadow.specs.Area.{longs, OnlyArea}
 use Rattle.law_links.specs.Paths.{updated}
 use Rattle.law_links.proofs.Paths.{updated_same, updated_other}
 
@@ -42,9 +42,9 @@ drop_written ram n at long h k =
     drop-append-drop (at + length (big_bytes 4 long)) ram (take at ram ++ big_bytes 4 long) n (omega arith) (omega arith)
 
 -- two changes, one after the other
-pub outside_on : (area : ℕ) {before between after : List ℕ} → OutsideStays area before between → OutsideStays area between after
-    → OutsideStays area before after
+pub outside_on : (area : ℕ) {before between after : List ℕ} → OnlyArea area before between → OnlyArea area between after
+    → OnlyArea area before after
 outside_on area first second =
-    record { size = second.size ∙ first.size; below = second.below ∙ first.below; above = second.above ∙ first.above }
+    record { count = second.count ∙ first.count; below = second.below ∙ first.below; above = second.above ∙ first.above }
 
 pub ruleset frames = (longs_written, take_written, drop_written)

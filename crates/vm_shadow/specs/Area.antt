@@ -13,17 +13,20 @@ use Rattle.vm_shadow.specs.declared.table.Table.TheVariants.{Pointers, Pages}
 use Rattle.vm_shadow.specs.Slots.{Slots, Placed, placed, same_table, number_of, Has, Once}
 use Rattle.vm_shadow.specs.declared.nodes.TheConstants.{SLOTS}
 use Rattle.vm_shadow.specs.declared.area.TheConstants.{AREA_BYTES}
-use Rattle.vm_shadow.specs.declared.area.TheConstants.{AREA_BYTES}
 
 -- the longs of the area at an address, by number
 abbrev pub longs : List ℕ → ℕ → ℕ → ℕ
 longs ram area index = number_at ram (area + 4 * index) 4
 
--- Outside an area nothing of memory changes, and no byte is added or lost.
-pub record OutsideStays (area : ℕ) (before after : List ℕ) : Type 0 where
-  pub size : length after ≡ length before
-  pub below : take area after ≡ take area before
-  pub above : drop (area + AREA_BYTES) after ≡ drop (area + AREA_BYTES) before
+-- Nothing of memory changes but bytes from one place up to another.
+pub record OnlyBetween (from to : ℕ) (before after : List ℕ) : Type 0 where
+  pub count : length after ≡ length before
+  pub below : take from after ≡ take from before
+  pub above : drop to after ≡ drop to before
+
+-- Nothing changes but bytes of an area.
+abbrev pub OnlyArea : ℕ → (before after : List ℕ) → Type 0
+OnlyArea area before after = OnlyBetween area (area + AREA_BYTES) before after
 
 -- the number of a root's entry, and of an entry of a slot
 abbrev pub in_root : Space → ℕ → ℕ

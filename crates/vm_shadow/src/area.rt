@@ -1,7 +1,7 @@
 //! The longs of an area.
 
 ghost use Rattle.std.specs.Prelude.{◌≡◌, ℕ, ◌+◌, ◌*◌, ◌%◌, ◌^◌, ◌≤◌, ◌<◌, ◌⊎◌, length, MatchOption};
-ghost use Rattle.vm_shadow.specs.Area.{OutsideStays, longs, in_root as root_place, in_slot as slot_place};
+ghost use Rattle.vm_shadow.specs.Area.{OnlyArea, longs, in_root as root_place, in_slot as slot_place};
 ghost use Rattle.law_links.specs.Paths.{updated};
 ghost use Rattle.vm_shadow.specs.Area.{link as link_of, page_long as long_of, IsPageLong};
 ghost use Rattle.vm_shadow.specs.declared.nodes.TheConstants.{SLOTS};
@@ -82,7 +82,7 @@ pub fn set_in<R: Ram>(ram: &mut R, area: u32, index: u32, long: u32)
     requires inside { area + AREA_BYTES ≤ length (R.bytes ram.old) }
     requires index { index < 16384 }
     ensures longs { longs (R.bytes ram.new) area ≡ updated (longs (R.bytes ram.old) area) index long }
-    ensures outside { OutsideStays area (R.bytes ram.old) (R.bytes ram.new) }
+    ensures outside { OnlyArea area (R.bytes ram.old) (R.bytes ram.new) }
     ensures rest { R.rest ram.new ≡ R.rest ram.old }
 {
     ram.set_long(area + 4 * index, long);
@@ -93,7 +93,7 @@ pub fn wipe<R: Ram>(ram: &mut R, area: u32)
     requires aligned { area % AREA_BYTES ≡ 0 }
     requires inside { area + AREA_BYTES ≤ length (R.bytes ram.old) }
     ensures longs { (at : ℕ) → at < 16384 → longs (R.bytes ram.new) area at ≡ 0 }
-    ensures outside { OutsideStays area (R.bytes ram.old) (R.bytes ram.new) }
+    ensures outside { OnlyArea area (R.bytes ram.old) (R.bytes ram.new) }
     ensures rest { R.rest ram.new ≡ R.rest ram.old }
 {
     for index in 0..AREA_BYTES / 4 {

@@ -6,7 +6,7 @@ ghost use Rattle.vm_shadow.specs.Slots.{placed, number_of, with_table, tables_fo
 ghost use Rattle.vm_shadow.specs.Slots.{is_full_for as full_for, pages_of};
 ghost use Rattle.vm_shadow.specs.Shadows.{nothing, room_for, with_page_put, dropped, with_entry};
 ghost use Rattle.vm_shadow.specs.Mapped.{mapped, root_of, shadowed, BothStand};
-ghost use Rattle.vm_shadow.specs.Area.{OutsideStays, longs, in_root as root_place, in_slot as slot_place, entry_of};
+ghost use Rattle.vm_shadow.specs.Area.{OnlyArea, longs, in_root as root_place, in_slot as slot_place, entry_of};
 ghost use Rattle.law_links.specs.Paths.{updated};
 ghost use Rattle.vm_shadow.specs.Area.{Counted, IsPageLong, Laid, Maps, OnlyGo, Pushed, Removed, UsedBut};
 ghost use Rattle.vm_shadow.specs.declared.area.TheConstants.{AREA_BYTES};
@@ -132,7 +132,7 @@ impl Shadow {
         requires inside { self.now.area + AREA_BYTES ≤ length (R.bytes ram.old) }
         ensures longs { longs (R.bytes ram.new) self.now.area
             ≡ updated (longs (R.bytes ram.old) self.now.area) (root_place space index) long }
-        ensures outside { OutsideStays self.now.area (R.bytes ram.old) (R.bytes ram.new) }
+        ensures outside { OnlyArea self.now.area (R.bytes ram.old) (R.bytes ram.new) }
         ensures rest { R.rest ram.new ≡ R.rest ram.old }
     {
         set_in(ram, self.area(), in_root(space, index), long);
@@ -148,7 +148,7 @@ impl Shadow {
             ≡ updated (longs (R.bytes ram.old) self.old.area) (slot_place slot index) long }
         ensures counted { Counted (placed self.new) (R.bytes ram.new) }
         ensures same { self.new ≡ record self.old { counts = self.new.counts } }
-        ensures outside { OutsideStays self.old.area (R.bytes ram.old) (R.bytes ram.new) }
+        ensures outside { OnlyArea self.old.area (R.bytes ram.old) (R.bytes ram.new) }
         ensures rest { R.rest ram.new ≡ R.rest ram.old }
     {
         let area = self.area();
@@ -165,7 +165,7 @@ impl Shadow {
         ensures shadow { shadowed self.new (R.bytes ram.new) ≡ nothing }
         ensures area { self.new.area ≡ self.old.area }
         ensures stands { BothStand (R.bytes ram.new) self.new.area }
-        ensures outside { OutsideStays self.old.area (R.bytes ram.old) (R.bytes ram.new) }
+        ensures outside { OnlyArea self.old.area (R.bytes ram.old) (R.bytes ram.new) }
         ensures rest { R.rest ram.new ≡ R.rest ram.old }
     {
         wipe(ram, self.area());
@@ -264,7 +264,7 @@ impl Shadow {
             ≡ with_entry space page (entry_of long) (shadowed self.old (R.bytes ram.old)).entries }
         ensures long { longs (R.bytes ram.new) self.new.area (slot_place slot (page % 64)) ≡ long }
         ensures same { self.new ≡ record self.old { counts = self.new.counts } }
-        ensures outside { OutsideStays self.old.area (R.bytes ram.old) (R.bytes ram.new) }
+        ensures outside { OnlyArea self.old.area (R.bytes ram.old) (R.bytes ram.new) }
         ensures rest { R.rest ram.new ≡ R.rest ram.old }
     {
         let _ = space;
@@ -285,7 +285,7 @@ impl Shadow {
         ensures gone { OnlyGo self.old.tables self.new.tables }
         ensures above { Has self.new.tables (Table.Pointers space (index / 128)) }
         ensures area { self.new.area ≡ self.old.area }
-        ensures outside { OutsideStays self.old.area (R.bytes ram.old) (R.bytes ram.new) }
+        ensures outside { OnlyArea self.old.area (R.bytes ram.old) (R.bytes ram.new) }
         ensures rest { R.rest ram.new ≡ R.rest ram.old }
     {
         if !self.is_empty(slot) {
@@ -309,7 +309,7 @@ impl Shadow {
             ≡ (shadowed self.old (R.bytes ram.old)).entries }
         ensures gone { OnlyGo self.old.tables self.new.tables }
         ensures area { self.new.area ≡ self.old.area }
-        ensures outside { OutsideStays self.old.area (R.bytes ram.old) (R.bytes ram.new) }
+        ensures outside { OnlyArea self.old.area (R.bytes ram.old) (R.bytes ram.new) }
         ensures rest { R.rest ram.new ≡ R.rest ram.old }
     {
         if let Some(slot) = self.pointers(ram, space, index) {
@@ -329,7 +329,7 @@ impl Shadow {
             ≡ dropped space page (shadowed self.old (R.bytes ram.old)) }
         ensures area { self.new.area ≡ self.old.area }
         ensures stands { BothStand (R.bytes ram.new) self.new.area }
-        ensures outside { OutsideStays self.old.area (R.bytes ram.old) (R.bytes ram.new) }
+        ensures outside { OnlyArea self.old.area (R.bytes ram.old) (R.bytes ram.new) }
         ensures rest { R.rest ram.new ≡ R.rest ram.old }
     {
         if let Some(slot) = self.pages(ram, space, page / 64) {
@@ -351,7 +351,7 @@ impl Shadow {
         ensures tables { self.new.tables ≡ with_table (Table.Pointers space index) self.old.tables }
         ensures slot { result ≡ (placed self.new).slot (Table.Pointers space index) }
         ensures area { self.new.area ≡ self.old.area }
-        ensures outside { OutsideStays self.old.area (R.bytes ram.old) (R.bytes ram.new) }
+        ensures outside { OnlyArea self.old.area (R.bytes ram.old) (R.bytes ram.new) }
         ensures rest { R.rest ram.new ≡ R.rest ram.old }
     {
         if let Some(slot) = self.pointers(ram, space, index) {
@@ -377,7 +377,7 @@ impl Shadow {
         ensures tables { self.new.tables ≡ with_table (Table.Pages space index) self.old.tables }
         ensures slot { result ≡ (placed self.new).slot (Table.Pages space index) }
         ensures area { self.new.area ≡ self.old.area }
-        ensures outside { OutsideStays self.old.area (R.bytes ram.old) (R.bytes ram.new) }
+        ensures outside { OnlyArea self.old.area (R.bytes ram.old) (R.bytes ram.new) }
         ensures rest { R.rest ram.new ≡ R.rest ram.old }
     {
         if let Some(slot) = self.below(ram, space, index, above) {
@@ -398,7 +398,7 @@ impl Shadow {
         ensures shadow { shadowed self.new (R.bytes ram.new)
             ≡ room_for space page (shadowed self.old (R.bytes ram.old)) }
         ensures area { self.new.area ≡ self.old.area }
-        ensures outside { OutsideStays self.old.area (R.bytes ram.old) (R.bytes ram.new) }
+        ensures outside { OnlyArea self.old.area (R.bytes ram.old) (R.bytes ram.new) }
         ensures rest { R.rest ram.new ≡ R.rest ram.old }
     {
         let full = self.is_full_for(ram, space, page);
@@ -427,7 +427,7 @@ impl Shadow {
             ≡ with_page_put space page frame writable (shadowed self.old (R.bytes ram.old)) }
         ensures area { self.new.area ≡ self.old.area }
         ensures stands { BothStand (R.bytes ram.new) self.new.area }
-        ensures outside { OutsideStays self.old.area (R.bytes ram.old) (R.bytes ram.new) }
+        ensures outside { OnlyArea self.old.area (R.bytes ram.old) (R.bytes ram.new) }
         ensures rest { R.rest ram.new ≡ R.rest ram.old }
     {
         let full = self.make_room(ram, space, page);

@@ -11,7 +11,7 @@ pub returns-clause-outside : goal.returns-clause-outside
 returns-clause-outside g c =
     let at = c.args.area + 4 * c.args.index in
     record {
-      size = rw c.set_long.ensures.bytes (length-with_number _ at 4 c.args.long (omega arith));
+      count = rw c.set_long.ensures.bytes (length-with_number _ at 4 c.args.long (omega arith));
       below = rw c.set_long.ensures.bytes (take_written _ c.args.area at c.args.long (omega arith) (omega arith));
       above = rw c.set_long.ensures.bytes (drop_written _ (c.args.area + 65536) at c.args.long (omega arith) (omega arith));
     }

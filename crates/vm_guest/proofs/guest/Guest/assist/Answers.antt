@@ -19,6 +19,6 @@ returns-clause-means c =
     let same : c.process-end.new.self ≡ h = sym c.self.view_is in
     let r : Stepped × Guest = run guest_bus (rest_in c.args.rest.now c.args.level n.cpu) (bus_side (guested_on n c.args.board.now.world.ram)) in
     let steps : h.steps ≡ n.steps = sym (ap (λ (x : Seat). x.steps) same) ∙ ap (λ (x : Seat). x.steps) c.process-end.ensures.guest in
-    ended h.steps r c.process-end.result h.cpu (bus_side (guested_on h after)) c.state_by-self-inside.result
-    (c.process-end.ensures.means ∙ ap (λ (x : Seat). ((c.process-end.result, x.cpu), bus_side (guested_on x after))) same) c.state_by-self-inside.ensures
+    ended h.steps r c.process-end.result h.cpu (bus_side (guested_on h after)) c.state_after-self-inside.result
+    (c.process-end.ensures.means ∙ ap (λ (x : Seat). ((c.process-end.result, x.cpu), bus_side (guested_on x after))) same) c.state_after-self-inside.ensures
     ∙ ap (λ (k : ℕ). ended_at k r) steps

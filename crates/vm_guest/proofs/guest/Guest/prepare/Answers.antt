@@ -33,7 +33,7 @@ is_laid c =
     ∙ ap (λ (x : Contents). with_contents c.clear.new.board.world.ram (contents_from c.args.base x)) c.chunks.ensures
     ∙ ap (λ (m : List ℕ). with_contents m (contents_from c.args.base contents)) cleared in
     laid c.args.base c.args.ram c.in_ok-shadow.shadow.area contents ram c.load.new.self.world.ram c.clear-2.new.ram.world.ram
-    c.requires.inside c.requires.image c.in_ok-shadow.ensures.0 loaded c.clear-2.ensures.outside.size
+    c.requires.inside c.requires.image c.in_ok-shadow.ensures.0 loaded c.clear-2.ensures.outside.count
     c.clear-2.ensures.outside.below c.clear-2.ensures.outside.above
 
 pub returns-clause-start : goal.returns-clause-start

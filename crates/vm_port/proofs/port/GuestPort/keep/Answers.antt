@@ -18,8 +18,8 @@ invariant_of-self g c =
     record {
       aligned = m.aligned;
       whole = m.whole;
-      small = rw e.outside.size m.small;
-      inside = rw e.outside.size m.inside;
+      small = rw e.outside.count m.small;
+      inside = rw e.outside.count m.inside;
       area = e.area ∙ m.area;
       maps = e.tables;
       placed = subst (IsPlaced m.base) (sym e.shadow) (placed_dropped m.base before gone.space gone.page m.placed);
@@ -47,4 +47,4 @@ returns-in-Some-clause-beyond g c =
     let e = c.drop_page.ensures in
     let (part, below, above) =
     around (g.R.Ram.bytes m.ram.now) (g.R.Ram.bytes c.drop_page.new.ram) m.base m.size m.shadow.now.area m.area e.outside.below e.outside.above in
-    rw (e.rest, e.outside.size, below, above) refl
+    rw (e.rest, e.outside.count, below, above) refl

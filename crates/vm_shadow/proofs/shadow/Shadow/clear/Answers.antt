@@ -9,7 +9,7 @@ whole : (g : _) (c : goal.After-empty g) → Maps c.empty.new.self (g.R.Ram.byte
 whole g c =
     let area : c.area.result ≡ c.args.self.now.area = c.area.ensures.area in
     let aligned = c.area.ensures.aligned in
-    let size : length (g.R.Ram.bytes c.wipe.new.ram) ≡ length (g.R.Ram.bytes c.args.ram.now) = c.wipe.ensures.outside.size in
+    let size : length (g.R.Ram.bytes c.wipe.new.ram) ≡ length (g.R.Ram.bytes c.args.ram.now) = c.wipe.ensures.outside.count in
     let inside = c.requires in
     maps_empty (placed c.args.self.now) (placed c.empty.new.self) (g.R.Ram.bytes c.wipe.new.ram) (omega arith) (omega arith)
     c.empty.ensures.area c.empty.ensures.tables c.empty.ensures.count

@@ -68,19 +68,19 @@ pub returns-clause-laid : goal.returns-clause-laid
 returns-clause-laid g c =
     laid_freed (placed c.args.self.now) (placed c.remove.new.self) (λ n. get_or c.set.new.self.counts n 0) _ _ c.args.space c.args.index c.in-Some.above
     c.requires.laid c.requires.index c.requires.stands c.in-Some.ensures.0 (zero g c)
-    c.set.ensures.outside.size c.set.ensures.longs (counted g c) (removed g c)
+    c.set.ensures.outside.count c.set.ensures.longs (counted g c) (removed g c)
 
 pub returns-clause-entries : goal.returns-clause-entries
 returns-clause-entries g c =
     entries_freed (placed c.args.self.now) (placed c.remove.new.self) (λ n. get_or c.set.new.self.counts n 0) _ _ c.args.space c.args.index c.in-Some.above
     c.requires.laid c.requires.index c.requires.stands c.in-Some.ensures.0 (zero g c)
-    c.set.ensures.outside.size c.set.ensures.longs (counted g c) (removed g c)
+    c.set.ensures.outside.count c.set.ensures.longs (counted g c) (removed g c)
 
 pub returns-clause-full : goal.returns-clause-full
 returns-clause-full g c =
     full_freed (placed c.args.self.now) (placed c.remove.new.self) (λ n. get_or c.set.new.self.counts n 0) _ _ c.args.space c.args.index c.in-Some.above
     c.requires.laid c.requires.index c.requires.stands c.in-Some.ensures.0 (zero g c)
-    c.set.ensures.outside.size c.set.ensures.longs (counted g c) (removed g c)
+    c.set.ensures.outside.count c.set.ensures.longs (counted g c) (removed g c)
     c.requires.full
 
 pub returns-clause-gone : goal.returns-clause-gone

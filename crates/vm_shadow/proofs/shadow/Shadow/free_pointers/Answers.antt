@@ -31,13 +31,13 @@ pub returns-then-is_empty-clause-tables : goal.returns-then-is_empty-clause-tabl
 returns-then-is_empty-clause-tables g c =
     maps_freed (placed c.args.self.now) (placed c.remove.new.self) _ _ c.args.space c.args.index c.requires.laid c.requires.index c.requires.stands
     (zero_of (placed c.args.self.now) (Pointers c.args.space c.args.index) c.in-Some.slot c.is_empty.result c.in-Some.ensures.0 c.is_empty.ensures
-    c.if-is_empty.true) c.set_root.ensures.outside.size c.set_root.ensures.longs c.remove.ensures c.requires.full
+    c.if-is_empty.true) c.set_root.ensures.outside.count c.set_root.ensures.longs c.remove.ensures c.requires.full
 
 pub returns-then-is_empty-clause-entries : goal.returns-then-is_empty-clause-entries
 returns-then-is_empty-clause-entries g c =
     entries_gone (placed c.args.self.now) (placed c.remove.new.self) _ _ c.args.space c.args.index c.requires.laid c.requires.index c.requires.stands
     (zero_of (placed c.args.self.now) (Pointers c.args.space c.args.index) c.in-Some.slot c.is_empty.result c.in-Some.ensures.0 c.is_empty.ensures
-    c.if-is_empty.true) c.set_root.ensures.outside.size c.set_root.ensures.longs c.remove.ensures
+    c.if-is_empty.true) c.set_root.ensures.outside.count c.set_root.ensures.longs c.remove.ensures
 
 pub returns-then-is_empty-clause-gone : goal.returns-then-is_empty-clause-gone
 returns-then-is_empty-clause-gone g c = (λ a. not (same_table (Pointers c.args.space c.args.index) a), c.remove.ensures.tables)

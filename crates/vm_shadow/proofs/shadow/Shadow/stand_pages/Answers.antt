@@ -47,20 +47,20 @@ pub returns-clause-laid : goal.returns-clause-laid
 returns-clause-laid g c = subst (λ (q : Slots). Laid (placed q) (g.R.Ram.bytes c.set.new.ram)) (sym c.set.ensures.same)
     (laid_pages (placed c.args.self.now) (placed c.push-slot.new.self) (λ n. get_or c.set.new.self.counts n 0) _ _ c.args.space c.args.index c.args.above
     c.push-slot.result c.link.result c.requires.laid c.requires.index c.requires.above c.requires.slot c.in_default.ensures c.push-slot.ensures.inside
-    c.push-slot.ensures.pushed c.set.ensures.outside.size (long g c) c.set.ensures.longs (counted g c))
+    c.push-slot.ensures.pushed c.set.ensures.outside.count (long g c) c.set.ensures.longs (counted g c))
 
 pub returns-clause-full : goal.returns-clause-full
 returns-clause-full g c = subst (λ (q : Slots). UsedBut (Pages c.args.space c.args.index) (placed q) (g.R.Ram.bytes c.set.new.ram)) (sym c.set.ensures.same)
     (full_pages (placed c.args.self.now) (placed c.push-slot.new.self) (λ n. get_or c.set.new.self.counts n 0) _ _ c.args.space c.args.index c.args.above
     c.push-slot.result c.link.result c.requires.laid c.requires.index c.requires.above c.requires.slot c.in_default.ensures c.push-slot.ensures.inside
-    c.push-slot.ensures.pushed c.set.ensures.outside.size (long g c) c.set.ensures.longs (counted g c) c.requires.full)
+    c.push-slot.ensures.pushed c.set.ensures.outside.count (long g c) c.set.ensures.longs (counted g c) c.requires.full)
 
 pub returns-clause-entries : goal.returns-clause-entries
 returns-clause-entries g c =
     ap (λ (q : Slots). entries_in (g.R.Ram.bytes c.set.new.ram) q.area) c.set.ensures.same
     ∙ entries_pages (placed c.args.self.now) (placed c.push-slot.new.self) (λ n. get_or c.set.new.self.counts n 0) _ _ c.args.space c.args.index c.args.above
     c.push-slot.result c.link.result c.requires.laid c.requires.index c.requires.above c.requires.slot c.in_default.ensures c.push-slot.ensures.inside
-    c.push-slot.ensures.pushed c.set.ensures.outside.size (long g c) c.set.ensures.longs (counted g c)
+    c.push-slot.ensures.pushed c.set.ensures.outside.count (long g c) c.set.ensures.longs (counted g c)
 
 pub returns-clause-tables : goal.returns-clause-tables
 returns-clause-tables g c =

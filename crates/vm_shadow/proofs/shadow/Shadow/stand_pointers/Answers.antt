@@ -33,20 +33,20 @@ pub returns-clause-laid : goal.returns-clause-laid
 returns-clause-laid g c =
     laid_pointers (placed c.args.self.now) (placed c.push-slot.new.self) _ _ c.args.space c.args.index c.push-slot.result c.link.result
     (laid (placed c.args.self.now) _ c.requires.tables) c.requires.index c.in_default.ensures c.push-slot.ensures.inside c.push-slot.ensures.pushed
-    c.set_root.ensures.outside.size (long g c) c.set_root.ensures.longs
+    c.set_root.ensures.outside.count (long g c) c.set_root.ensures.longs
 
 pub returns-clause-full : goal.returns-clause-full
 returns-clause-full g c =
     full_pointers (placed c.args.self.now) (placed c.push-slot.new.self) _ _ c.args.space c.args.index c.push-slot.result c.link.result
     (laid (placed c.args.self.now) _ c.requires.tables) c.requires.index c.in_default.ensures c.push-slot.ensures.inside c.push-slot.ensures.pushed
-    c.set_root.ensures.outside.size (long g c) c.set_root.ensures.longs
+    c.set_root.ensures.outside.count (long g c) c.set_root.ensures.longs
     (full_but (placed c.args.self.now) _ (Pointers c.args.space c.args.index) c.requires.tables)
 
 pub returns-clause-entries : goal.returns-clause-entries
 returns-clause-entries g c =
     entries_pointers (placed c.args.self.now) (placed c.push-slot.new.self) _ _ c.args.space c.args.index c.push-slot.result c.link.result
     (laid (placed c.args.self.now) _ c.requires.tables) c.requires.index c.in_default.ensures c.push-slot.ensures.inside c.push-slot.ensures.pushed
-    c.set_root.ensures.outside.size (long g c) c.set_root.ensures.longs
+    c.set_root.ensures.outside.count (long g c) c.set_root.ensures.longs
 
 pub returns-clause-tables : goal.returns-clause-tables
 returns-clause-tables g c = c.push-slot.ensures.pushed.tables ∙ sym (with_new (Pointers c.args.space c.args.index) c.args.self.now.tables c.in_default.ensures)
