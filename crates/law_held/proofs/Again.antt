@@ -19,7 +19,7 @@ use Rattle.def_machine.specs.declared.reference.Reference.{Reference}
 use Rattle.def_machine.specs.Places.{taken, stored, checked, line_at, taken_line}
 use Rattle.mb_model.specs.Pages.{page_of}
 use Rattle.def_machine.specs.Bus.{fault_of, place_at, fetching_of, reading_of, writing_of, Take, read_by}
-use Rattle.law_tells.specs.Guarded.{Apart}
+use Rattle.law_tells.specs.Guarded.{ShareNoOffset}
 use Rattle.mb_walk.proofs.Parts.{over-again, over-stands}
 use Rattle.def_machine.proofs.BusLemmas.{taken_memory}
 use Rattle.def_guests.specs.Guests.{Guest, Truthful, ref, lets, allows, allows_call, placed_at}
@@ -162,14 +162,14 @@ above_by : (f f' a b la lb : ℕ) → a % 4096 + la ≤ 4096 → b % 4096 + lb �
 above_by f f' a b la lb x y z (inl h) k = omega arith
 above_by f f' a b la lb x y z (inr h) k = omega arith
 
-swapped : (p q : Piece) → Apart p q → Apart q p
+swapped : (p q : Piece) → ShareNoOffset p q → ShareNoOffset q p
 swapped p q (inl h) = inr h
 swapped p q (inr h) = inl h
 
 ram_same : (g h : Guest) (u v : Result (Unit {0}) Fault) → (let a : Result (Unit {0}) Fault × Guest = (u, g) in a) ≡ (v, h) → g.world.ram ≡ h.world.ram
 ram_same g h u v e = ap (λ (q : Result (Unit {0}) Fault × Guest). q.1.world.ram) e
 
-stands_beside : (space : Space) (size : ℕ) (p q : Piece) (value more : ℕ) (g : Guest) → Apart p q → Sound size g
+stands_beside : (space : Space) (size : ℕ) (p q : Piece) (value more : ℕ) (g : Guest) → ShareNoOffset p q → Sound size g
     → IsAttemptCall space 0 size (Write space q more)
     → allows_call (Write space q more) g.shadow ≡ true → Stands space size p value g → Stands space size p value (held_bus (Write space q more) g).1
 stands_beside space size p q value more g apart s l may (lp, may_p, is) =

@@ -10,13 +10,13 @@ use Rattle.mb_port.proofs.Cuts.{cut_are}
 use Rattle.mb_frames.specs.declared.pend.Pend.{Pend}
 use Rattle.mb_frames.specs.AccessFields.{piece_of}
 use Rattle.mb_writes.specs.Writing.{part_of, parts_of, pending_of}
-use Rattle.law_tells.specs.Guarded.{Apart}
+use Rattle.law_tells.specs.Guarded.{ShareNoOffset}
 use Rattle.law_tells.specs.Left.{AreOwn}
 
 -- a piece is apart from each of these
 abbrev pub ApartFrom : Piece → List Pend → Type 0
 ApartFrom p [] = Unit {0}
-ApartFrom p (q ∷ qs) = Apart p (piece_of q) × ApartFrom p qs
+ApartFrom p (q ∷ qs) = ShareNoOffset p (piece_of q) × ApartFrom p qs
 
 -- each is apart from all that come after it
 abbrev pub Spread : List Pend → Type 0

@@ -45,9 +45,9 @@ IsReading (FlushKept what) = ⊥
 IsReading (Test space at write) = ⊥
 IsReading ResetDevices = ⊥
 
--- no byte of one has the offset in its page of a byte of the other: they are apart wherever their pages lead
-abbrev pub Apart : Piece → Piece → Type 0
-Apart p q = (offset_of p.at + p.len ≤ offset_of q.at) ⊎ (offset_of q.at + q.len ≤ offset_of p.at)
+-- no byte of one has the offset in its page of a byte of the other: so they are apart wherever their pages lead
+abbrev pub ShareNoOffset : Piece → Piece → Type 0
+ShareNoOffset p q = (offset_of p.at + p.len ≤ offset_of q.at) ⊎ (offset_of q.at + q.len ≤ offset_of p.at)
 
 -- The call is lawful in a state that serves, and is not refused.
 abbrev pub Goes : {S : Type 0} → Guarded S → Call → S → Type 0
@@ -87,8 +87,8 @@ pub record Guards {S : Type 0} (x : Guarded S) (space : Space) : Type 0 where
   pub still : (c : Call) (s : S) → IsReading c → Goes x c s → x.unwritten s → x.unwritten (state_in (x.bus c s))
   pub reads_keep : (c : Call) (s : S) (d : Call) (answer : Answer d) → IsReading c → Goes x c s → x.stands d answer s
       → x.stands d answer (state_in (x.bus c s))
-  -- a write keeps what stands of pieces that are apart from it
-  pub writes_keep : (p q : Piece) (value more : ℕ) (s : S) → Apart p q → Goes x (Write space q more) s
+  -- a write keeps what stands of pieces that share no offset with it
+  pub writes_keep : (p q : Piece) (value more : ℕ) (s : S) → ShareNoOffset p q → Goes x (Write space q more) s
       → x.stands (Write space p value) (Ok tt) s
       → x.stands (Write space p value) (Ok tt) (state_in (x.bus (Write space q more) s))
   -- what was read or written can be read or written again
