@@ -1,7 +1,7 @@
 -- A number that is not known counts as one in range: where the numbers are in range, they are so with it too.
-use Rattle.std.proofs.Common.{◌≡◌, ℕ, ◌+◌, ◌*◌, ◌-◌, ◌%◌, ◌^◌, ◌<◌, ◌≤◌, ◌⊎◌, inl, inr, Bool, true, false, List, [], ◌∷◌, length, map, Option, None, Some, refl}
+use Rattle.std.proofs.Common.{◌≡◌, ℕ, ◌+◌, ◌*◌, ◌-◌, ◌%◌, ◌^◌, ◌<◌, ◌≤◌, ◌⊎◌, inl, inr, Bool, true, false, List, [], ◌∷◌, ◌++◌, length, map, Option, None, Some, refl}
 use Rattle.std.proofs.Common.{sym, ◌∙◌, subst, is_some}
-use Rattle.std.proofs.Common.{arith, true≢false, zero-le, Ok, Err}
+use Rattle.std.proofs.Common.{arith, true≢false, zero-le, Ok, Err, Result}
 use Rattle.std.proofs.lemmas.Bool.Decides.{nat_tests}
 use Rattle.std.specs.Prelude.{ℤ, pos, ◌==◌, ◌&&◌, nat_le, option_map, option_and_then, if◌then◌else◌}
 use Rattle.std.specs.Option.{ok_or, option_or}
@@ -10,8 +10,6 @@ use Rattle.mb_instr.specs.declared.size.Size.{Size}
 use Rattle.mb_instr.specs.declared.size.Size.TheVariants as size
 use Rattle.mb_instr.specs.declared.instruction.Instr.{Instr}
 use Rattle.mb_instr.specs.declared.kinds.Condition.{Condition}
-use Rattle.mb_instr.specs.declared.operand.Ea.TheVariants.{AbsL, AbsW, Disp, Imm, Index, PcDisp, PcIndex}
-use Rattle.mb_instr.specs.declared.operand.Ext.TheVariants.{Full}
 use Rattle.mb_instr.specs.Sizes.{low_of, sign_extended}
 use Rattle.mb_syntax.specs.declared.statement.SizeLetter.{SizeLetter}
 use Rattle.mb_syntax.specs.declared.mode.Base.{Base}
@@ -31,24 +29,23 @@ use Rattle.mb_syntax.specs.declared.operand.FieldNumber.TheVariants as field_num
 use Rattle.mb_syntax.specs.Modes.{Sum}
 use Rattle.mb_mnemonics.specs.declared.fault.MeansFault.{MeansFault}
 use Rattle.mb_mnemonics.specs.declared.fault.MeansFault.TheVariants as fault
-use Rattle.mb_mnemonics.specs.declared.parts.Parts.{Parts}
 use Rattle.mb_mnemonics.specs.declared.pattern.Pattern.{Pattern}
 use Rattle.mb_mnemonics.specs.declared.pattern.Pattern.TheVariants as pattern
 use Rattle.mb_mnemonics.specs.declared.range.Range.{Range}
 use Rattle.mb_mnemonics.specs.declared.range.Range.TheVariants as range
-use Rattle.mb_mnemonics.specs.Lines.{Entry, condition_by}
-use Rattle.mb_mnemonics.specs.Means.{Form, form_among, form_by, is_instr, is_named, meaning, meaning_by, said, size_by, told}
-use Rattle.mb_mnemonics.specs.Meant.{meant}
-use Rattle.mb_mnemonics.specs.Modes.{base_displacement, brief, displacement_words, ea_of, from_pc, full, full_word, is_word, mode_words, outer_of, plain}
-use Rattle.mb_mnemonics.specs.Modes.{with_base, immediate_words, lower_of}
-use Rattle.mb_mnemonics.specs.Operands.{field_bits, field_part, is_displaced, is_immediate_form, is_long_address, is_target, nothing, operand_words}
-use Rattle.mb_mnemonics.specs.Operands.{takes_operand, with_displacement}
-use Rattle.mb_mnemonics.specs.Operands.{takes_operands, value_of, with_mode, with_operand, with_operands, with_value}
+use Rattle.mb_mnemonics.specs.Lines.{Entry, condition_by, lines}
+use Rattle.mb_mnemonics.specs.Means.{Form, form_among, form_by, is_named, meaning, meaning_by, said, size_by, told, words_said}
+use Rattle.mb_instr.specs.Operands.{immediate, long_words}
+use Rattle.mb_mnemonics.specs.Modes.{base_displacement, brief, displacement_words, extension_words, from_pc, full, full_word, is_word, mode_words, outer_of}
+use Rattle.mb_mnemonics.specs.Modes.{immediate_words, lower_of, plain, words_of}
+use Rattle.mb_mnemonics.specs.Operands.{field_bits, field_part, is_displaced, is_immediate_form, is_long_address, is_target, operand_words}
+use Rattle.mb_mnemonics.specs.Operands.{takes_operand, Said, in_first, in_second, in_own, together, quick_bits, reach_said, source_bits}
+use Rattle.mb_mnemonics.specs.Operands.{takes_operands, value_of, destination_bits, ea_said, mode_said, operand_said, operands_said}
 use Rattle.mb_mnemonics.specs.Ranges.{branch, displacement, distance, immediate_range, number}
 use Rattle.mb_mnemonics.specs.Sizes.{size_in}
-use Rattle.mb_mnemonics.specs.Table.{lines}
 use Rattle.mb_mnemonics.specs.Values.{valued, valued_displacement, valued_field, valued_form, valued_mode, valued_number}
 use Rattle.mb_mnemonics.proofs.ModeWords.{chained, mapped}
+use Rattle.mb_mnemonics.proofs.Names.{told_in}
 use Rattle.mb_mnemonics.proofs.SameForm.{form_of_same, operand_words_same}
 use Rattle.mb_asm.specs.Bytes.{is_out}
 use Rattle.mb_asm.specs.Values.{Scope, value_or_one, with_all_known, filled_base, filled_mode, target}
@@ -218,16 +215,19 @@ plain_near : (i j : ℕ) (f g : Marked → ℤ) (d : Option (Displacement Sum)) 
     → is_some (plain (option_map (valued_displacement f) (option_map (marked_displacement false) d))) ≡ true
 plain_near i j f g None fills h = refl
 plain_near i j f g (Some d) fills h =
-    number_near (elim d.width [ width.Word ↦ range.Displacement16 | width.Long ↦ range.Long ]) (f (mark false d.value)) (g (mark false d.value))
-    (fills.number d.value) h
+    let r : Range = elim d.width [ width.Word ↦ range.Displacement16 | width.Long ↦ range.Long ] in
+    map_some (words_of d.width) (words_of d.width) (number r (f (mark false d.value))) (number r (g (mark false d.value)))
+    (number_near r (f (mark false d.value)) (g (mark false d.value)) (fills.number d.value)) h
 
 pc_near : (i j c : ℕ) (f g : Marked → ℤ) (d : Option (Displacement Sum)) → c ≤ 60 → Fills i j f g
     → is_some (from_pc ((j + c) % 4294967296) (option_map (valued_displacement g) (option_map (marked_displacement true) d))) ≡ true
     → is_some (from_pc ((i + c) % 4294967296) (option_map (valued_displacement f) (option_map (marked_displacement true) d))) ≡ true
 pc_near i j c f g None small fills h = refl
 pc_near i j c f g (Some d) small fills h =
-    displacement_near (elim d.width [ width.Word ↦ size.Word | width.Long ↦ size.Long ]) i j c (f (mark true d.value)) (g (mark true d.value)) small
-    (fills.target d.value) h
+    let s : Size = elim d.width [ width.Word ↦ size.Word | width.Long ↦ size.Long ] in
+    map_some (words_of d.width) (words_of d.width) (displacement s ((i + c) % 4294967296) (f (mark true d.value)))
+    (displacement s ((j + c) % 4294967296) (g (mark true d.value)))
+    (displacement_near s i j c (f (mark true d.value)) (g (mark true d.value)) small (fills.target d.value)) h
 
 outer_near : (i j : ℕ) (f g : Marked → ℤ) (k : Indirection) (d : Option (Displacement Sum)) → Fills i j f g
     → is_some (plain (elim k [
@@ -265,42 +265,40 @@ full_near : (i j c : ℕ) (f g : Marked → ℤ) (t : FullForm Sum) → c ≤ 60
 full_near i j c f g t small fills h =
     let a = valued_form f (marked_form t) in
     let b = valued_form g (marked_form t) in
-    two_some (λ bd od. Full (full_word a) bd od) (λ bd od. Full (full_word b) bd od) (base_displacement ((i + c) % 4294967296) a)
+    two_some (λ bd od. full_word a ∷ bd ++ od) (λ bd od. full_word b ∷ bd ++ od) (base_displacement ((i + c) % 4294967296) a)
     (base_displacement ((j + c) % 4294967296) b) (plain (outer_of a)) (plain (outer_of b))
     (based_near i j c f g t.base t small fills) (outer_near i j f g t.indirection t.outer fills) h
 
 ea_near : (s : Size) (i j c : ℕ) (f g : Marked → ℤ) (m : Mode Sum) → c ≤ 60 → Fills i j f g
-    → is_some (ea_of s ((j + c) % 4294967296) (valued_mode g (marked_mode m))) ≡ true
-    → is_some (ea_of s ((i + c) % 4294967296) (valued_mode f (marked_mode m))) ≡ true
+    → is_some (extension_words s ((j + c) % 4294967296) (valued_mode g (marked_mode m))) ≡ true
+    → is_some (extension_words s ((i + c) % 4294967296) (valued_mode f (marked_mode m))) ≡ true
 ea_near s i j c f g (mode.Displaced n e) small fills h =
-    map_some (λ d. Disp n d) (λ d. Disp n d) (number range.Displacement16 (f (mark false e))) (number range.Displacement16 (g (mark false e)))
+    map_some (λ d. d ∷ []) (λ d. d ∷ []) (number range.Displacement16 (f (mark false e))) (number range.Displacement16 (g (mark false e)))
     (number_near range.Displacement16 (f (mark false e)) (g (mark false e)) (fills.number e)) h
 ea_near s i j c f g (mode.Indexed n e x) small fills h =
-    map_some (λ d. Index n (brief x d)) (λ d. Index n (brief x d)) (number range.Displacement8 (f (mark false e))) (number range.Displacement8 (g
+    map_some (λ d. brief x d ∷ []) (λ d. brief x d ∷ []) (number range.Displacement8 (f (mark false e))) (number range.Displacement8 (g
     (mark false e)))
     (number_near range.Displacement8 (f (mark false e)) (g (mark false e)) (fills.number e)) h
 ea_near s i j c f g (mode.Absolute e None) small fills h =
-    map_some (λ a. AbsL a) (λ a. AbsL a) (number range.Long (f (mark true e))) (number range.Long (g (mark true e)))
+    map_some long_words long_words (number range.Long (f (mark true e))) (number range.Long (g (mark true e)))
     (long_target i j (f (mark true e)) (g (mark true e)) (fills.target e)) h
 ea_near s i j c f g (mode.Absolute e (Some width.Word)) small fills h =
-    map_some (λ a. AbsW a) (λ a. AbsW a) (number range.Word (f (mark false e))) (number range.Word (g (mark false e)))
+    map_some (λ a. a ∷ []) (λ a. a ∷ []) (number range.Word (f (mark false e))) (number range.Word (g (mark false e)))
     (number_near range.Word (f (mark false e)) (g (mark false e)) (fills.number e)) h
 ea_near s i j c f g (mode.Absolute e (Some width.Long)) small fills h =
-    map_some (λ a. AbsL a) (λ a. AbsL a) (number range.Long (f (mark false e))) (number range.Long (g (mark false e)))
+    map_some long_words long_words (number range.Long (f (mark false e))) (number range.Long (g (mark false e)))
     (number_near range.Long (f (mark false e)) (g (mark false e)) (fills.number e)) h
 ea_near s i j c f g (mode.PcDisplaced e) small fills h =
-    map_some (λ d. PcDisp d) (λ d. PcDisp d) (displacement size.Word ((i + c) % 4294967296) (f (mark true e)))
+    map_some (λ d. d ∷ []) (λ d. d ∷ []) (displacement size.Word ((i + c) % 4294967296) (f (mark true e)))
     (displacement size.Word ((j + c) % 4294967296) (g (mark true e)))
     (displacement_near size.Word i j c (f (mark true e)) (g (mark true e)) small (fills.target e)) h
 ea_near s i j c f g (mode.PcIndexed e x) small fills h =
-    map_some (λ d. PcIndex (brief x d)) (λ d. PcIndex (brief x d)) (displacement size.Byte ((i + c) % 4294967296) (f (mark true e)))
+    map_some (λ d. brief x d ∷ []) (λ d. brief x d ∷ []) (displacement size.Byte ((i + c) % 4294967296) (f (mark true e)))
     (displacement size.Byte ((j + c) % 4294967296) (g (mark true e)))
     (displacement_near size.Byte i j c (f (mark true e)) (g (mark true e)) small (fills.target e)) h
-ea_near s i j c f g (mode.Full t) small fills h =
-    map_some (λ e. with_base t.base e) (λ e. with_base t.base e) (full ((i + c) % 4294967296) (valued_form f (marked_form t)))
-    (full ((j + c) % 4294967296) (valued_form g (marked_form t))) (full_near i j c f g t small fills) h
+ea_near s i j c f g (mode.Full t) small fills h = full_near i j c f g t small fills h
 ea_near s i j c f g (mode.Immediate e) small fills h =
-    map_some (λ v. Imm v) (λ v. Imm v) (number (immediate_range s) (f (mark false e))) (number (immediate_range s) (g (mark false e)))
+    map_some (immediate s) (immediate s) (number (immediate_range s) (f (mark false e))) (number (immediate_range s) (g (mark false e)))
     (number_near (immediate_range s) (f (mark false e)) (g (mark false e)) (fills.number e)) h
 ea_near s i j c f g _ small fills h = refl
 
@@ -334,67 +332,71 @@ absolute_long i j f g (mode.Absolute e (Some w)) fills takes h =
     number_near range.Long (f (mark false e)) (g (mark false e)) (fills.number e) h
 absolute_long i j f g _ fills takes h = absurd cc
 
-value_near : (p : Pattern) (s : Size) (i j : ℕ) (f g : Marked → ℤ) (m : Mode Sum) (a b : Parts) → Fills i j f g
-    → takes_operand p s (operand.Mode (valued_mode g (marked_mode m))) ≡ true
-    → is_some (with_value p s j (valued_mode g (marked_mode m)) b) ≡ true
-    → is_some (with_value p s i (valued_mode f (marked_mode m)) a) ≡ true
-value_near pattern.Immediate s i j f g m a b fills takes h =
-    let u = value_of (valued_mode f (marked_mode m)) in
-    let v = value_of (valued_mode g (marked_mode m)) in
-    map_some (λ n. record a { long = n }) (λ n. record b { long = n }) (number (immediate_range s) u) (number (immediate_range s) v)
-    (number_near (immediate_range s) u v (immediate_number i j f g m fills takes)) h
-value_near (pattern.Quick r) s i j f g m a b fills takes h =
-    let u = value_of (valued_mode f (marked_mode m)) in
-    let v = value_of (valued_mode g (marked_mode m)) in
-    map_some (λ n. record a { quick = n % 2 ^ 8 }) (λ n. record b { quick = n % 2 ^ 8 }) (number r u) (number r v)
-    (number_near r u v (immediate_number i j f g m fills takes)) h
-value_near pattern.WordNumber s i j f g m a b fills takes h =
-    let u = value_of (valued_mode f (marked_mode m)) in
-    let v = value_of (valued_mode g (marked_mode m)) in
-    map_some (λ n. record a { word = n % 2 ^ 16 }) (λ n. record b { word = n % 2 ^ 16 }) (number range.Word u) (number range.Word v)
-    (number_near range.Word u v (immediate_number i j f g m fills takes)) h
-value_near (pattern.Target reach) s i j f g m a b fills takes h =
-    let u = value_of (valued_mode f (marked_mode m)) in
-    let v = value_of (valued_mode g (marked_mode m)) in
-    map_some (λ d. with_displacement reach d a) (λ d. with_displacement reach d b) (branch reach i u) (branch reach j v)
-    (branch_near reach i j u v (target_place i j f g m fills takes)) h
-value_near pattern.Displaced s i j f g m a b fills takes h =
-    let u = value_of (valued_mode f (marked_mode m)) in
-    let v = value_of (valued_mode g (marked_mode m)) in
-    map_some (λ d. record a { y = lower_of (valued_mode f (marked_mode m)); word = d % 2 ^ 16 })
-    (λ d. record b { y = lower_of (valued_mode g (marked_mode m)); word = d % 2 ^ 16 }) (number range.Displacement16 u) (number range.Displacement16 v)
-    (number_near range.Displacement16 u v (displaced_number i j f g m fills takes)) h
-value_near pattern.Absolute s i j f g m a b fills takes h =
-    let u = value_of (valued_mode f (marked_mode m)) in
-    let v = value_of (valued_mode g (marked_mode m)) in
-    map_some (λ n. record a { long = n }) (λ n. record b { long = n }) (number range.Long u) (number range.Long v)
-    (absolute_long i j f g m fills takes) h
-value_near _ s i j f g m a b fills takes h = refl
+said_near_by : (s : Size) (i j c : ℕ) (f g : Marked → ℤ) (x y : ℕ) (m : Mode Sum) → c ≤ 60 → Fills i j f g
+    → is_some (ea_said s ((j + c) % 4294967296) y (valued_mode g (marked_mode m))) ≡ true
+    → is_some (ea_said s ((i + c) % 4294967296) x (valued_mode f (marked_mode m))) ≡ true
+said_near_by s i j c f g x y m small fills h =
+    map_some (λ ws. record { first = x; second = 0; third = 0; own = ws }) (λ ws. record { first = y; second = 0; third = 0; own = ws })
+    (extension_words s ((i + c) % 4294967296) (valued_mode f (marked_mode m))) (extension_words s ((j + c) % 4294967296) (valued_mode g (marked_mode m)))
+    (ea_near s i j c f g m small fills) h
 
-mode_near : (p : Pattern) (s : Size) (i j c : ℕ) (f g : Marked → ℤ) (m : Mode Sum) (a b : Parts) → c ≤ 60 → Fills i j f g
+mode_near : (p : Pattern) (s : Size) (i j c : ℕ) (f g : Marked → ℤ) (m : Mode Sum) → c ≤ 60 → Fills i j f g
     → takes_operand p s (operand.Mode (valued_mode g (marked_mode m))) ≡ true
-    → is_some (with_mode p s j ((j + c) % 4294967296) (valued_mode g (marked_mode m)) b) ≡ true
-    → is_some (with_mode p s i ((i + c) % 4294967296) (valued_mode f (marked_mode m)) a) ≡ true
-mode_near (pattern.Mode class) s i j c f g m a b small fills takes h =
-    map_some (λ x. record a { ea = x }) (λ x. record b { ea = x }) (ea_of s ((i + c) % 4294967296) (valued_mode f (marked_mode m)))
-    (ea_of s ((j + c) % 4294967296) (valued_mode g (marked_mode m))) (ea_near s i j c f g m small fills) h
-mode_near (pattern.Memory class) s i j c f g m a b small fills takes h =
-    map_some (λ x. record a { ea = x }) (λ x. record b { ea = x }) (ea_of s ((i + c) % 4294967296) (valued_mode f (marked_mode m)))
-    (ea_of s ((j + c) % 4294967296) (valued_mode g (marked_mode m))) (ea_near s i j c f g m small fills) h
-mode_near pattern.DataMode s i j c f g m a b small fills takes h =
-    map_some (λ x. record a { ea = x }) (λ x. record b { ea = x }) (ea_of s ((i + c) % 4294967296) (valued_mode f (marked_mode m)))
-    (ea_of s ((j + c) % 4294967296) (valued_mode g (marked_mode m))) (ea_near s i j c f g m small fills) h
-mode_near (pattern.Source class) s i j c f g m a b small fills takes h =
-    map_some (λ x. record a { source = x }) (λ x. record b { source = x }) (ea_of s ((i + c) % 4294967296) (valued_mode f (marked_mode m)))
-    (ea_of s ((j + c) % 4294967296) (valued_mode g (marked_mode m))) (ea_near s i j c f g m small fills) h
-mode_near (pattern.Data place) s i j c f g m a b small fills takes h = refl
-mode_near (pattern.Address place) s i j c f g m a b small fills takes h = refl
-mode_near (pattern.Register place) s i j c f g m a b small fills takes h = refl
-mode_near (pattern.Indirect place) s i j c f g m a b small fills takes h = refl
-mode_near (pattern.PostIncrement place) s i j c f g m a b small fills takes h = refl
-mode_near (pattern.PreDecrement place) s i j c f g m a b small fills takes h = refl
-mode_near pattern.RegisterList s i j c f g m a b small fills takes h = refl
-mode_near p s i j c f g m a b small fills takes h = value_near p s i j f g m a b fills takes h
+    → is_some (mode_said p s j ((j + c) % 4294967296) (valued_mode g (marked_mode m))) ≡ true
+    → is_some (mode_said p s i ((i + c) % 4294967296) (valued_mode f (marked_mode m))) ≡ true
+mode_near (pattern.Mode class) s i j c f g m small fills takes h =
+    said_near_by s i j c f g (source_bits (valued_mode f (marked_mode m))) (source_bits (valued_mode g (marked_mode m))) m small fills h
+mode_near (pattern.Memory class) s i j c f g m small fills takes h =
+    said_near_by s i j c f g (source_bits (valued_mode f (marked_mode m))) (source_bits (valued_mode g (marked_mode m))) m small fills h
+mode_near pattern.DataMode s i j c f g m small fills takes h =
+    said_near_by s i j c f g (source_bits (valued_mode f (marked_mode m))) (source_bits (valued_mode g (marked_mode m))) m small fills h
+mode_near (pattern.Destination class) s i j c f g m small fills takes h =
+    said_near_by s i j c f g (destination_bits (valued_mode f (marked_mode m))) (destination_bits (valued_mode g (marked_mode m))) m small fills h
+mode_near (pattern.Data place) s i j c f g m small fills takes h = refl
+mode_near (pattern.Address place) s i j c f g m small fills takes h = refl
+mode_near (pattern.Register place) s i j c f g m small fills takes h = refl
+mode_near (pattern.Indirect place) s i j c f g m small fills takes h = refl
+mode_near (pattern.PostIncrement place) s i j c f g m small fills takes h = refl
+mode_near (pattern.PreDecrement place) s i j c f g m small fills takes h = refl
+mode_near pattern.RegisterList s i j c f g m small fills takes h = refl
+mode_near pattern.ReversedList s i j c f g m small fills takes h = refl
+mode_near pattern.Immediate s i j c f g m small fills takes h =
+    let u = value_of (valued_mode f (marked_mode m)) in
+    let v = value_of (valued_mode g (marked_mode m)) in
+    map_some (λ n. in_own (immediate s n)) (λ n. in_own (immediate s n)) (number (immediate_range s) u) (number (immediate_range s) v)
+    (number_near (immediate_range s) u v (immediate_number i j f g m fills takes)) h
+mode_near (pattern.Quick r) s i j c f g m small fills takes h =
+    let u = value_of (valued_mode f (marked_mode m)) in
+    let v = value_of (valued_mode g (marked_mode m)) in
+    map_some (λ n. in_first (quick_bits r n)) (λ n. in_first (quick_bits r n)) (number r u) (number r v)
+    (number_near r u v (immediate_number i j f g m fills takes)) h
+mode_near pattern.WordNumber s i j c f g m small fills takes h =
+    let u = value_of (valued_mode f (marked_mode m)) in
+    let v = value_of (valued_mode g (marked_mode m)) in
+    map_some in_second in_second (number range.Word u) (number range.Word v)
+    (number_near range.Word u v (immediate_number i j f g m fills takes)) h
+mode_near (pattern.Distance reach) s i j c f g m small fills takes h =
+    let u = value_of (valued_mode f (marked_mode m)) in
+    let v = value_of (valued_mode g (marked_mode m)) in
+    map_some (reach_said reach) (reach_said reach) (number (immediate_range reach) u) (number (immediate_range reach) v)
+    (number_near (immediate_range reach) u v (immediate_number i j f g m fills takes)) h
+mode_near (pattern.Target reach) s i j c f g m small fills takes h =
+    let u = value_of (valued_mode f (marked_mode m)) in
+    let v = value_of (valued_mode g (marked_mode m)) in
+    map_some (reach_said reach) (reach_said reach) (branch reach i u) (branch reach j v)
+    (branch_near reach i j u v (target_place i j f g m fills takes)) h
+mode_near pattern.Displaced s i j c f g m small fills takes h =
+    let u = value_of (valued_mode f (marked_mode m)) in
+    let v = value_of (valued_mode g (marked_mode m)) in
+    map_some (λ d. record { first = lower_of (valued_mode f (marked_mode m)) % 8; second = d; third = 0; own = [] })
+    (λ d. record { first = lower_of (valued_mode g (marked_mode m)) % 8; second = d; third = 0; own = [] }) (number range.Displacement16 u)
+    (number range.Displacement16 v) (number_near range.Displacement16 u v (displaced_number i j f g m fills takes)) h
+mode_near pattern.Absolute s i j c f g m small fills takes h =
+    let u = value_of (valued_mode f (marked_mode m)) in
+    let v = value_of (valued_mode g (marked_mode m)) in
+    map_some (λ n. in_own (long_words n)) (λ n. in_own (long_words n)) (number range.Long u) (number range.Long v)
+    (absolute_long i j f g m fills takes) h
+mode_near _ s i j c f g m small fills takes h = refl
 
 part_near : (i j : ℕ) (f g : Marked → ℤ) (r : Range) (n : FieldNumber Sum) → Fills i j f g
     → is_some (field_part r (valued_number g (marked_number n))) ≡ true → is_some (field_part r (valued_number f (marked_number n))) ≡ true
@@ -412,16 +414,17 @@ bits_near i j f g t fills h =
     (field_part range.Width (valued_number g (marked_number t.width)))
     (part_near i j f g range.Offset t.offset fills) (part_near i j f g range.Width t.width fills) h
 
-operand_near : (p : Pattern) (s : Size) (i j c : ℕ) (f g : Marked → ℤ) (o : Operand Sum) (a b : Parts) → c ≤ 60 → Fills i j f g
+operand_near : (p : Pattern) (s : Size) (i j c : ℕ) (f g : Marked → ℤ) (o : Operand Sum) → c ≤ 60 → Fills i j f g
     → takes_operand p s (valued g (marked o)) ≡ true
-    → is_some (with_operand p s j ((j + c) % 4294967296) (valued g (marked o)) b) ≡ true
-    → is_some (with_operand p s i ((i + c) % 4294967296) (valued f (marked o)) a) ≡ true
-operand_near p s i j c f g (operand.Mode m) a b small fills takes h = mode_near p s i j c f g m a b small fills takes h
-operand_near p s i j c f g (operand.Field m t) a b small fills takes h =
-    two_some (λ w x. record a { ea = x; word = w }) (λ w x. record b { ea = x; word = w }) (field_bits (valued_field f (marked_field t)))
-    (field_bits (valued_field g (marked_field t))) (ea_of s ((i + c) % 4294967296) (valued_mode f (marked_mode m)))
-    (ea_of s ((j + c) % 4294967296) (valued_mode g (marked_mode m))) (bits_near i j f g t fills) (ea_near s i j c f g m small fills) h
-operand_near p s i j c f g _ a b small fills takes h = refl
+    → is_some (operand_said p s j ((j + c) % 4294967296) (valued g (marked o))) ≡ true
+    → is_some (operand_said p s i ((i + c) % 4294967296) (valued f (marked o))) ≡ true
+operand_near p s i j c f g (operand.Mode m) small fills takes h = mode_near p s i j c f g m small fills takes h
+operand_near p s i j c f g (operand.Field m t) small fills takes h =
+    two_some (λ w ws. record { first = source_bits (valued_mode f (marked_mode m)); second = w; third = 0; own = ws })
+    (λ w ws. record { first = source_bits (valued_mode g (marked_mode m)); second = w; third = 0; own = ws }) (field_bits (valued_field f (marked_field t)))
+    (field_bits (valued_field g (marked_field t))) (extension_words s ((i + c) % 4294967296) (valued_mode f (marked_mode m)))
+    (extension_words s ((j + c) % 4294967296) (valued_mode g (marked_mode m))) (bits_near i j f g t fills) (ea_near s i j c f g m small fills) h
+operand_near p s i j c f g _ small fills takes h = refl
 
 -- ---- all operands
 
@@ -450,10 +453,13 @@ mode_few s _ = zero-le
 
 words_few : (p : Pattern) (s : Size) (o : Operand ℤ) → operand_words p s o ≤ 5
 words_few (pattern.Mode class) s (operand.Mode m) = mode_few s m
-words_few (pattern.Source class) s (operand.Mode m) = mode_few s m
+words_few (pattern.Destination class) s (operand.Mode m) = mode_few s m
 words_few (pattern.Memory class) s (operand.Mode m) = mode_few s m
 words_few (pattern.FieldMode class) s (operand.Field m t) = mode_few s m
 words_few pattern.Immediate s o = immediate_few s
+words_few (pattern.Distance size.Long) s o = omega arith
+words_few (pattern.Distance size.Byte) s o = zero-le
+words_few (pattern.Distance size.Word) s o = zero-le
 words_few (pattern.Target size.Long) s o = omega arith
 words_few (pattern.Target size.Byte) s o = zero-le
 words_few (pattern.Target size.Word) s o = zero-le
@@ -475,10 +481,10 @@ then_some h k (Some x) None m n e = absurd cc
 then_some h k None (Some y) m n e = absurd (true≢false (sym (m refl)))
 then_some h k None None m n e = absurd cc
 
-operands_near : (ps : List Pattern) (s : Size) (i j c : ℕ) (f g : Marked → ℤ) (os : List (Operand Sum)) (a b : Parts)
+operands_near : (ps : List Pattern) (s : Size) (i j c : ℕ) (f g : Marked → ℤ) (os : List (Operand Sum)) (a b : Said)
     → c + 10 * length ps ≤ 60 → Fills i j f g → takes_operands ps s (map (valued g) (map marked os)) ≡ true
-    → is_some (with_operands ps s j ((j + c) % 4294967296) (map (valued g) (map marked os)) b) ≡ true
-    → is_some (with_operands ps s i ((i + c) % 4294967296) (map (valued f) (map marked os)) a) ≡ true
+    → is_some (operands_said ps s j ((j + c) % 4294967296) (map (valued g) (map marked os)) b) ≡ true
+    → is_some (operands_said ps s i ((i + c) % 4294967296) (map (valued f) (map marked os)) a) ≡ true
 operands_near [] s i j c f g os a b small fills takes h = refl
 operands_near (p ∷ ps) s i j c f g [] a b small fills takes h = refl
 operands_near (p ∷ ps) s i j c f g (o ∷ os) a b small fills takes h =
@@ -488,13 +494,13 @@ operands_near (p ∷ ps) s i j c f g (o ∷ os) a b small fills takes h =
     let less : c + 2 * w + 10 * length ps ≤ 60 = omega arith in
     let tight : c ≤ 60 = omega arith in
     let same = operand_words_same f g p s (marked o) in
-    then_some (λ more. with_operands ps s i (((i + c) % 4294967296 + 2 * operand_words p s (valued f (marked o))) % 4294967296) (map (valued f)
-    (map marked os)) more)
-    (λ more. with_operands ps s j (((j + c) % 4294967296 + 2 * w) % 4294967296) (map (valued g) (map marked os)) more)
-    (with_operand p s i ((i + c) % 4294967296) (valued f (marked o)) a) (with_operand p s j ((j + c) % 4294967296) (valued g (marked o)) b)
-    (operand_near p s i j c f g o a b tight fills both.0)
-    (λ x y k. rw (same, further_on i c w) (operands_near ps s i j (c + 2 * w) f g os x y less fills both.1
-    (subst (λ (n : ℕ). is_some (with_operands ps s j n (map (valued g) (map marked os)) y) ≡ true) (further_on j c w) k)))
+    then_some (λ more. operands_said ps s i (((i + c) % 4294967296 + 2 * operand_words p s (valued f (marked o))) % 4294967296) (map (valued f)
+    (map marked os)) (together a more))
+    (λ more. operands_said ps s j (((j + c) % 4294967296 + 2 * w) % 4294967296) (map (valued g) (map marked os)) (together b more))
+    (operand_said p s i ((i + c) % 4294967296) (valued f (marked o))) (operand_said p s j ((j + c) % 4294967296) (valued g (marked o)))
+    (operand_near p s i j c f g o tight fills both.0)
+    (λ x y k. rw (same, further_on i c w) (operands_near ps s i j (c + 2 * w) f g os (together a x) (together b y) less fills both.1
+    (subst (λ (n : ℕ). is_some (operands_said ps s j n (map (valued g) (map marked os)) (together b y)) ≡ true) (further_on j c w) k)))
     h
 
 -- ---- statements
@@ -549,20 +555,21 @@ said_near t i j f g os form fills h =
     let b = le_is t.entry.words 2 both.1 in
     let c = 2 + 2 * t.entry.words in
     let small : c + 10 * length t.entry.operands ≤ 60 = omega arith in
-    let start = nothing t.size t.condition in
-    map_some (λ p. meant t.entry.row p) (λ p. meant t.entry.row p)
-    (with_operands t.entry.operands t.size i ((i + c) % 4294967296) (map (valued f) (map marked os)) start)
-    (with_operands t.entry.operands t.size j ((j + c) % 4294967296) (map (valued g) (map marked os)) start)
-    (operands_near t.entry.operands t.size i j c f g os start start small fills form.takes) h
+    map_some (words_said t) (words_said t)
+    (operands_said t.entry.operands t.size i ((i + c) % 4294967296) (map (valued f) (map marked os)) (in_first 0))
+    (operands_said t.entry.operands t.size j ((j + c) % 4294967296) (map (valued g) (map marked os)) (in_first 0))
+    (operands_near t.entry.operands t.size i j c f g os (in_first 0) (in_first 0) small fills form.takes) h
 
-told_out : (x y : Option Instr) → (is_some y ≡ true → is_some x ≡ true) → is_out (told x) ≡ true → is_out (told y) ≡ true
+out_is : (r : Result Instr MeansFault) → is_out r ≡ true → r ≡ Err fault.Range
+out_is (Ok i) h = absurd cc
+out_is (Err fault.Name) h = absurd cc
+out_is (Err fault.Operand) h = absurd cc
+out_is (Err fault.Range) h = refl
+
+told_out : (x y : Option (List ℕ)) → (is_some y ≡ true → is_some x ≡ true) → is_out (told x) ≡ true → is_out (told y) ≡ true
 told_out x None m h = refl
 told_out None (Some y) m h = absurd (true≢false (sym (m refl)))
-told_out (Some x) (Some y) m h =
-    elim (is_instr x) as (λ b. is_out (if b then Ok x else Err fault.Operand) ≡ true → is_out (told (Some y)) ≡ true) [
-      | true ↦ λ k. absurd cc
-      | false ↦ λ k. absurd cc
-    ] h
+told_out (Some x) (Some y) m h = absurd (told_in x (out_is (told (Some x)) h))
 
 formed_out : (o : Option Form) (e : MeansFault) (i j : ℕ) (f g : Marked → ℤ) (os : List (Operand Sum))
     → ((t : Form) → o ≡ Some t → IsForm t (map (valued g) (map marked os))) → Fills i j f g

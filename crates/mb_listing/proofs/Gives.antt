@@ -1,14 +1,13 @@
 -- Each listed text gives its words.
 use Rattle.std.proofs.Common.{◌≡◌, ℕ, suc, zero, ◌+◌, ◌*◌, ◌<◌, ◌≤◌, ◌^◌, List, [], ◌∷◌, length, take, drop, refl, arith, length-drop}
 use Rattle.std.proofs.lemmas.List.{length-take}
-use Rattle.std.specs.Prelude.{Bool, true, false, if◌then◌else◌, slice_index, All}
+use Rattle.std.specs.Prelude.{Bool, true, false, if◌then◌else◌, slice_index, All, Option, Some, None, option_and_then, unwrap_or, ⊤}
+use Rattle.std.specs.Option.{option_or}
 use Rattle.std.proofs.lemmas.List.Elements.{All-cons, All-drop, All-nil, All-head, All-tail, All-take}
-use Rattle.mb_decode.specs.declared.front.Decoded.{Decoded}
-use Rattle.mb_decode.specs.declared.front.Decoded.TheVariants.{Whole}
-use Rattle.mb_decode.specs.Decodes.{decode_of}
-use Rattle.mb_statement.specs.Statements.{Statement, statement_of}
+use Rattle.mb_mnemonics.specs.Lines.{Entry, lines}
+use Rattle.mb_statement.specs.Statements.{Reading, Statement, has_bits, reading_by}
 use Rattle.mb_statement.specs.Texts.{statement_text}
-use Rattle.mb_listing.specs.Listing.{Line, data_line, line_at, says}
+use Rattle.mb_listing.specs.Listing.{Line, data_line, line_among, line_at, line_by, says}
 use Rattle.mb_listing.specs.Listing.{line_read, lines_from, lines_of, words_at, words_in}
 use Rattle.mb_listing.specs.Laws.{EachLineGives, GivesItsWords}
 use Rattle.mb_listing.proofs.DataLines.{data_gives_its_word}
@@ -20,17 +19,39 @@ module _ (P : Line → Type 0) (at : ℕ) (words : List ℕ)
     (listed : (n : ℕ) (s : Statement) → says at (take n words) s ≡ true
     → P (record { at = at; words = take n words; text = statement_text s }))
     (number : P (data_line at (slice_index words 0))) where
-  by_test : (n : ℕ) (s : Statement) (test : Bool) → says at (take n words) s ≡ test
-      → P (if test then record { at = at; words = take n words; text = statement_text s } else data_line at (slice_index words 0))
-  by_test n s true e = listed n s e
-  by_test n s false e = number
+  -- it holds of the line, where there is one
+  abbrev Made : Option Line → Type 0
+  Made None = ⊤
+  Made (Some line) = P line
 
-  line_read_so : (read : Decoded) → P (line_read at (slice_index words 0) words read)
-  line_read_so (Whole i n) = by_test n (statement_of at i) (says at (take n words) (statement_of at i)) refl
-  line_read_so _ = number
+  by_test : (n : ℕ) (s : Statement) (test : Bool) → says at (take n words) s ≡ test
+      → Made (if test then Some (record { at = at; words = take n words; text = statement_text s }) else None)
+  by_test n s true e = listed n s e
+  by_test n s false e = tt
+
+  line_by_so : (read : Option Reading) → Made (option_and_then (λ r. line_read at words r) read)
+  line_by_so None = tt
+  line_by_so (Some r) = by_test r.words r.statement (says at (take r.words words) r.statement) refl
+
+  read_so : (fit : Bool) (read : Option Reading) → Made (if fit then option_and_then (λ r. line_read at words r) read else None)
+  read_so true read = line_by_so read
+  read_so false read = tt
+
+  either_so : (a b : Option Line) → Made a → Made b → Made (option_or a b)
+  either_so None b h k = k
+  either_so (Some line) b h k = h
+
+  line_among_so : (ls : List Entry) → Made (line_among ls at words)
+  line_among_so [] = tt
+  line_among_so (l ∷ ls) =
+      either_so (line_by l at words) (line_among ls at words) (read_so (has_bits l (slice_index words 0)) (reading_by l at words)) (line_among_so ls)
+
+  line_so : (line : Option Line) → Made line → P (unwrap_or line (data_line at (slice_index words 0)))
+  line_so None h = number
+  line_so (Some line) h = h
 
   line_at_so : P (line_at at words)
-  line_at_so = line_read_so (decode_of words)
+  line_at_so = line_so (line_among lines at words) (line_among_so lines)
 
 module _ (P : Line → Type 0) (ram : List ℕ)
     (so : (at first : ℕ) (others : List ℕ) → words_at ram at ≡ first ∷ others → P (line_at at (first ∷ others))) where

@@ -12,8 +12,7 @@ use Rattle.mb_instr.specs.declared.kinds.Condition.{Condition}
 use Rattle.mb_syntax.specs.declared.statement.SizeLetter.{SizeLetter}
 use Rattle.mb_syntax.specs.declared.operand.Operand.{Operand}
 use Rattle.mb_syntax.specs.Tables.{found_in}
-use Rattle.mb_mnemonics.specs.Lines.{Entry, NameOf, condition_by, condition_in, endings, same_letters}
-use Rattle.mb_mnemonics.specs.Table.{lines}
+use Rattle.mb_mnemonics.specs.Lines.{Entry, NameOf, condition_by, condition_in, endings, lines, same_letters}
 use Rattle.mb_mnemonics.specs.Means.{is_named, meaning}
 use Rattle.mb_mnemonics.proofs.Names.{unnamed}
 use Rattle.mb_asm.specs.Directives.{directives}

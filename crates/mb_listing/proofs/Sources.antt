@@ -12,7 +12,8 @@ use Rattle.mb_syntax.specs.declared.operand.Operand.TheVariants as operand
 use Rattle.mb_syntax.specs.Spans.{bytes_at}
 use Rattle.mb_syntax.specs.Statements.{Operation}
 use Rattle.mb_statement.specs.Numbers.{number}
-use Rattle.mb_statement.specs.Read.{read_operand}
+use Rattle.mb_mnemonics.specs.Values.{valued}
+use Rattle.mb_statement.specs.Read.{sum_of}
 use Rattle.mb_statement.specs.Statements.{Statement}
 use Rattle.mb_statement.specs.Texts.{statement_text}
 use Rattle.mb_statement.specs.Written.{is_written}
@@ -28,7 +29,7 @@ abbrev pub operation_of : Statement → Operation
 operation_of s = record {
   name = record { start = 1; end = 1 + length s.name };
   size = s.size;
-  operands = map read_operand s.operands;
+  operands = map (valued sum_of) s.operands;
 }
 
 -- a statement of one number, as ORG and DC have it

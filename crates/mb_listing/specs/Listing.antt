@@ -1,19 +1,19 @@
 -- The listing: the lines of a memory from an address on.
 use Rattle.std.specs.Prelude.{ℕ, zero, suc, ◌+◌, ◌*◌, ◌/◌, ◌%◌, ◌==◌, ◌&&◌, ◌++◌, Bool, false, if◌then◌else◌}
 use Rattle.std.specs.Prelude.{List, [], ◌∷◌, length, take, drop, slice_index, Result, Ok, Err, codes}
+use Rattle.std.specs.Prelude.{Option, Some, None, option_and_then, unwrap_or}
+use Rattle.std.specs.Option.{option_or}
 use Rattle.std.specs.List.{flat_map}
 use Rattle.std.specs.Str.{bytes_eq}
-use Rattle.mb_decode.specs.declared.front.Decoded.{Decoded}
-use Rattle.mb_decode.specs.declared.front.Decoded.TheVariants.{Whole}
-use Rattle.mb_decode.specs.Decodes.{decode_of}
 use Rattle.mb_instr.specs.declared.instruction.Instr.{Instr}
 use Rattle.mb_instr.specs.Codes.{words_of}
 use Rattle.mb_instr.specs.Rows.{row}
 use Rattle.mb_mnemonics.specs.declared.fault.MeansFault.{MeansFault}
+use Rattle.mb_mnemonics.specs.Lines.{Entry, lines}
 use Rattle.mb_mnemonics.specs.Means.{meaning}
 use Rattle.mb_report.specs.Digits.{digits, hex8}
 use Rattle.mb_statement.specs.Numbers.{number}
-use Rattle.mb_statement.specs.Statements.{Statement, statement_of}
+use Rattle.mb_statement.specs.Statements.{Reading, Statement, has_bits, reading_by}
 use Rattle.mb_statement.specs.Texts.{statement_text}
 use Rattle.mb_statement.specs.Written.{is_written}
 
@@ -44,18 +44,26 @@ pub record Line : Type 0 where
 abbrev pub data_line : ℕ → ℕ → Line
 data_line at word = record { at = at; words = word ∷ []; text = codes "DC.W " ++ number word }
 
--- The text of the words' statement, where it says just these words; else the first word alone.
-abbrev pub line_by : ℕ → ℕ → List ℕ → Statement → Line
-line_by at first words s =
-    if says at words s then record { at = at; words = words; text = statement_text s } else data_line at first
+-- so many of the words, and the text of a statement, where it says just them
+abbrev pub line_read : ℕ → List ℕ → Reading → Option Line
+line_read at words r =
+    if says at (take r.words words) r.statement
+    then Some (record { at = at; words = take r.words words; text = statement_text r.statement }) else None
 
-abbrev pub line_read : ℕ → ℕ → List ℕ → Decoded → Line
-line_read at first words (Whole i n) = line_by at first (take n words) (statement_of at i)
-line_read at first words _ = data_line at first
+-- the line that a line of the table of mnemonics makes of the words at an address
+abbrev pub line_by : Entry → ℕ → List ℕ → Option Line
+line_by l at words =
+    if has_bits l (slice_index words 0)
+    then option_and_then (λ r. line_read at words r) (reading_by l at words) else None
 
--- The line at an address by the words that begin there, as far as memory has them; there is one at least.
+abbrev pub line_among : List Entry → ℕ → List ℕ → Option Line
+line_among [] at words = None
+line_among (l ∷ ls) at words = option_or (line_by l at words) (line_among ls at words)
+
+-- The line at an address by the words that begin there, as far as memory has them; there is one at least: that of the
+-- first line of the table whose statement says just its words, else the first word alone.
 abbrev pub line_at : ℕ → List ℕ → Line
-line_at at words = line_read at (slice_index words 0) words (decode_of words)
+line_at at words = unwrap_or (line_among lines at words) (data_line at (slice_index words 0))
 
 -- the address, the words in digits, and the text
 abbrev pub line_text : Line → List ℕ

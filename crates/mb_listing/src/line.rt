@@ -1,22 +1,28 @@
 //! Lines of the listing.
 
-ghost use Rattle.std.specs.Prelude.{◌≡◌, ◌+◌, ◌*◌, ◌<◌, ◌≤◌, ◌++◌, codes, length, slice_index, take};
+ghost use Rattle.std.specs.Prelude.{◌≡◌, ◌+◌, ◌*◌, ◌<◌, ◌≤◌, ◌++◌, IfSome, IsTrue, codes, length, map};
+ghost use Rattle.std.specs.Prelude.{option_and_then, option_map, slice_index, take};
+ghost use Rattle.std.specs.List.{list_all};
 ghost use Rattle.arrayvec.specs.ArrayVec.{array_vec_len};
+ghost use Rattle.mb_mnemonics.specs.Code.{is_short};
+ghost use Rattle.mb_mnemonics.specs.Lines.{entry_of};
 ghost use Rattle.mb_mnemonics.specs.Means.{meaning};
 ghost use Rattle.mb_statement.specs.Numbers.{number};
 ghost use Rattle.mb_statement.specs.Texts.{statement_text};
 ghost use Rattle.mb_statement.specs.Answers.{statement_said};
+ghost use Rattle.mb_statement.specs.Statements.{reading_by};
 ghost use Rattle.mb_listing.specs.Answers.{line_said};
-ghost use Rattle.mb_listing.specs.Listing.{bytes_of, data_line, is_spelled, line_at, line_text, says};
+ghost use Rattle.mb_listing.specs.Listing.{bytes_of, data_line, is_spelled, line_among, line_at};
+ghost use Rattle.mb_listing.specs.Listing.{line_read, line_text, says};
 ghost use Rattle.mb_instr.specs.declared.counts.TheConstants.{MOST_WORDS};
 
 use arrayvec::ArrayVec;
-use mb_decode::{Decoded, decode};
 use mb_encode::encode;
-use mb_mnemonics::instruction_of;
+use mb_mnemonics::{Line as Mnemonic, instruction_of, lines};
 use mb_report::{hex8, push_digits};
 use mb_statement::{
-    LineText, Statement, is_written, push_bytes, push_number, push_statement, statement_of,
+    LineText, Reading, Statement, has_bits, is_written, push_bytes, push_number, push_statement,
+    reading_by,
 };
 
 /// The bytes of as many words as the longest instruction has.
@@ -53,7 +59,7 @@ fn front_of(words: &[u16], count: usize) -> &[u16]
 }
 
 fn statement_text(statement: &Statement) -> LineText
-    requires { length statement.now.name.now ≤ 8 }
+    requires { length statement.now.name.items ≤ 8 }
     ensures text { result.items ≡ statement_text (statement_said statement.now) }
     ensures short { array_vec_len result ≤ 301 }
 {
@@ -92,7 +98,7 @@ fn is_meant(at: u32, words: &[u16], statement: &Statement) -> bool
         (statement_said statement.now).operands at) }
 {
     let operands = statement.operands.as_slice();
-    match instruction_of(statement.name, statement.size, operands, at) {
+    match instruction_of(statement.name.as_slice(), statement.size, operands, at) {
         Ok(instruction) => match encode(&instruction) {
             Ok(spelled) => spelled.as_slice() == words,
             Err(_) => false,
@@ -108,6 +114,49 @@ fn says(at: u32, words: &[u16], statement: &Statement) -> bool
     at % 2 == 0 && is_written(statement) && is_meant(at, words, statement)
 }
 
+/// The line that a line of the table of mnemonics reads from the words at an address, where it says just them.
+fn line_read<'w>(mnemonic: &Mnemonic, at: u32, words: &'w [u16]) -> Option<Line<'w>>
+    requires { IsTrue (is_short mnemonic.now) }
+    ensures line { option_map line_said result
+        ≡ option_and_then (λ r. line_read at words.now r) (reading_by (entry_of mnemonic.now) at words.now) }
+    ensures few { IfSome result (λ line. length line.words.now ≤ length words.now) }
+    ensures short { IfSome result (λ line. array_vec_len line.text ≤ 301) }
+{
+    let Reading {
+        statement,
+        words: count,
+    } = reading_by(mnemonic, at, words)?;
+    let front = front_of(words, count as usize);
+    if says(at, front, &statement) {
+        Some(Line {
+            at,
+            words: front,
+            text: statement_text(&statement),
+        })
+    } else {
+        None
+    }
+}
+
+/// The line that the first of these lines of the table makes that makes one.
+fn line_among<'w>(mnemonics: &[Mnemonic], at: u32, words: &'w [u16]) -> Option<Line<'w>>
+    requires some { 0 < length words.now }
+    requires short { IsTrue (list_all is_short mnemonics.now) }
+    ensures line { option_map line_said result ≡ line_among (map entry_of mnemonics.now) at words.now }
+    ensures few { IfSome result (λ line. length line.words.now ≤ length words.now) }
+    ensures short { IfSome result (λ line. array_vec_len line.text ≤ 301) }
+{
+    let first = words[0];
+    for mnemonic in mnemonics {
+        if has_bits(mnemonic, first) {
+            if let Some(line) = line_read(mnemonic, at, words) {
+                return Some(line);
+            }
+        }
+    }
+    None
+}
+
 /// The line at an address by the words that begin there, as far as memory has them.
 pub(crate) fn line_at(at: u32, words: &[u16]) -> Line<'_>
     requires some { 0 < length words.now }
@@ -116,19 +165,9 @@ pub(crate) fn line_at(at: u32, words: &[u16]) -> Line<'_>
     ensures few { length result.words.now ≤ length words.now }
     ensures short { array_vec_len result.text ≤ 301 }
 {
-    let Decoded::Whole(instruction, count) = decode(words) else {
-        return data_line(at, words);
-    };
-    let front = front_of(words, count as usize);
-    let statement = statement_of(at, &instruction);
-    if says(at, front, &statement) {
-        Line {
-            at,
-            words: front,
-            text: statement_text(&statement),
-        }
-    } else {
-        data_line(at, words)
+    match line_among(lines(), at, words) {
+        Some(line) => line,
+        None => data_line(at, words),
     }
 }
 

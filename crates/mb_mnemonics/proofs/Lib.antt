@@ -1,10 +1,6 @@
-pub mod Value
-pub mod Families
+pub mod ShortEndings
 pub mod SameForm
-pub mod Shape
 pub mod Names
-pub mod Even
 pub mod ModeWords
-pub mod Steps
-pub mod RowWords
+pub mod OperandWords
 pub mod Length

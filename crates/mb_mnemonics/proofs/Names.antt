@@ -1,13 +1,16 @@
 -- Which statements have no line's name.
 use Rattle.std.proofs.Common.{◌≡◌, ℕ, Bool, true, false, List, [], ◌∷◌, Option, Some, None, Ok, Err, refl}
-use Rattle.std.specs.Prelude.{ℤ, ◌||◌, if◌then◌else◌, is_some, ok_or}
+use Rattle.std.specs.Prelude.{ℤ, ◌||◌, ◌==◌, if◌then◌else◌, is_some, length, ok_or}
 use Rattle.mb_instr.specs.declared.instruction.Instr.{Instr}
 use Rattle.mb_syntax.specs.declared.operand.Operand.{Operand}
 use Rattle.mb_syntax.specs.declared.statement.SizeLetter.{SizeLetter}
+use Rattle.mb_decode.specs.declared.front.Decoded.{Decoded}
+use Rattle.mb_decode.specs.declared.front.Decoded.TheVariants.{Whole}
+use Rattle.mb_decode.specs.Decodes.{decode_of}
+use Rattle.mb_mnemonics.specs.declared.fault.MeansFault.{MeansFault}
 use Rattle.mb_mnemonics.specs.declared.fault.MeansFault.TheVariants as fault
-use Rattle.mb_mnemonics.specs.Lines.{Entry, condition_by}
-use Rattle.mb_mnemonics.specs.Table.{lines}
-use Rattle.mb_mnemonics.specs.Means.{Form, form_by, form_among, is_named, said, told, is_instr, meaning_by, meaning}
+use Rattle.mb_mnemonics.specs.Lines.{Entry, condition_by, lines}
+use Rattle.mb_mnemonics.specs.Means.{Form, form_by, form_among, is_named, said, told, whole, meaning_by, meaning}
 
 neither : (a b : Bool) → (a || b) ≡ false → (a ≡ false) × (b ≡ false)
 neither true b e = absurd cc
@@ -32,12 +35,21 @@ pub unnamed : (name : List ℕ) (letter : Option SizeLetter) (os : List (Operand
     → is_named lines name ≡ false → meaning name letter os at ≡ Err fault.Name
 unnamed name letter os at e = rw (not_among lines name letter os e, e) refl
 
-told_no_name : (o : Option Instr) → told o ≡ Err fault.Name → ⊥
+not_so : (b : Bool) (i : Instr) (e : MeansFault) → (e ≡ fault.Operand → ⊥) → (if b then Ok i else Err fault.Operand) ≡ Err e → ⊥
+not_so true i e n h = absurd cc
+not_so false i e n h = n cc
+
+whole_not : (n : ℕ) (d : Decoded) (e : MeansFault) → (e ≡ fault.Operand → ⊥) → whole n d ≡ Err e → ⊥
+whole_not n (Whole i k) e m h = not_so (k == n) i e m h
+whole_not n _ e m h = m cc
+
+-- words that are said are no instruction, or are
+pub told_in : (words : List ℕ) → told (Some words) ≡ Err fault.Range → ⊥
+told_in words h = whole_not (length words) (decode_of words) fault.Range (λ e. absurd cc) h
+
+told_no_name : (o : Option (List ℕ)) → told o ≡ Err fault.Name → ⊥
 told_no_name None e = cc
-told_no_name (Some i) e = elim (is_instr i) as (λ b. (if b then Ok i else Err fault.Operand) ≡ Err fault.Name → ⊥) [
-  | true ↦ λ h. cc
-  | false ↦ λ h. cc
-] e
+told_no_name (Some words) e = whole_not (length words) (decode_of words) fault.Name (λ x. absurd cc) e
 
 by_name : (o : Option Form) (b : Bool) (os : List (Operand ℤ)) (at : ℕ)
     → meaning_by (ok_or o (if b then fault.Operand else fault.Name)) os at ≡ Err fault.Name → b ≡ false

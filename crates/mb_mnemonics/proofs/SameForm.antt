@@ -15,12 +15,11 @@ use Rattle.mb_mnemonics.specs.declared.pattern.Pattern.{Pattern}
 use Rattle.mb_mnemonics.specs.declared.pattern.Pattern.TheVariants as pattern
 use Rattle.mb_instr.specs.declared.size.Size.TheVariants as size
 use Rattle.mb_mnemonics.specs.Sizes.{size_in}
-use Rattle.mb_mnemonics.specs.Lines.{Entry}
+use Rattle.mb_mnemonics.specs.Lines.{Entry, lines}
 use Rattle.mb_mnemonics.specs.Modes.{displacement_words, outer_of, mode_words}
 use Rattle.mb_mnemonics.specs.Operands.{takes_mode, takes_field, takes_operand, takes_operands, operand_words, operands_words}
 use Rattle.mb_mnemonics.specs.Values.{valued_displacement, valued_form, valued_mode, valued}
 use Rattle.mb_mnemonics.specs.Means.{size_by, form_by, form_among, form_of, length_of_form, length_by}
-use Rattle.mb_mnemonics.specs.Table.{lines}
 
 takes_mode_same : {E : Type 0} (f g : E → ℤ) (p : Pattern) (s : Size) (m : Mode E)
     → takes_mode p s (valued_mode f m) ≡ takes_mode p s (valued_mode g m)
@@ -99,6 +98,10 @@ mode_words_same f g s (mode.PcIndexed e i) = refl
 mode_words_same f g s (mode.Immediate e) = refl
 mode_words_same f g s _ = refl
 
+distance_words : (reach s : Size) (o t : Operand ℤ) → operand_words (pattern.Distance reach) s o ≡ operand_words (pattern.Distance reach) s t
+distance_words size.Long s o t = refl
+distance_words _ s o t = refl
+
 target_words : (reach s : Size) (o t : Operand ℤ) → operand_words (pattern.Target reach) s o ≡ operand_words (pattern.Target reach) s t
 target_words size.Long s o t = refl
 target_words _ s o t = refl
@@ -108,14 +111,16 @@ pub operand_words_same : {E : Type 0} (f g : E → ℤ) (p : Pattern) (s : Size)
 operand_words_same f g p s (operand.Mode m) =
     elim p as (λ q. operand_words q s (operand.Mode (valued_mode f m)) ≡ operand_words q s (operand.Mode (valued_mode g m))) [
       | pattern.Mode class ↦ mode_words_same f g s m
-      | pattern.Source class ↦ mode_words_same f g s m
+      | pattern.Destination class ↦ mode_words_same f g s m
       | pattern.Memory class ↦ mode_words_same f g s m
+      | pattern.Distance reach ↦ distance_words reach s (operand.Mode (valued_mode f m)) (operand.Mode (valued_mode g m))
       | pattern.Target reach ↦ target_words reach s (operand.Mode (valued_mode f m)) (operand.Mode (valued_mode g m))
       | _ ↦ refl
     ]
 operand_words_same f g p s (operand.Field m b) =
     elim p as (λ q. operand_words q s (valued f (operand.Field m b)) ≡ operand_words q s (valued g (operand.Field m b))) [
       | pattern.FieldMode class ↦ mode_words_same f g s m
+      | pattern.Distance reach ↦ distance_words reach s (valued f (operand.Field m b)) (valued g (operand.Field m b))
       | pattern.Target reach ↦ target_words reach s (valued f (operand.Field m b)) (valued g (operand.Field m b))
       | _ ↦ refl
     ]

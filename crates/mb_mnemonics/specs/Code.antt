@@ -1,33 +1,26 @@
 -- What parts of the code give, and what they go by. No definition of what a statement means stands on these.
-use Rattle.std.specs.Prelude.{Bool, ◌&&◌, nat_le, length, Option, Some, None}
-use Rattle.mb_instr.specs.declared.instruction.Move.{Move}
-use Rattle.mb_instr.specs.declared.instruction.Arith.{Arith}
-use Rattle.mb_instr.specs.declared.instruction.Flow.{Flow}
-use Rattle.mb_instr.specs.declared.instruction.Flow.TheVariants as flow
-use Rattle.mb_instr.specs.declared.instruction.System.{System}
-use Rattle.mb_instr.specs.declared.instruction.Instr.{Instr}
-use Rattle.mb_instr.specs.declared.instruction.Instr.TheVariants as instr
+use Rattle.std.specs.Prelude.{ℕ, ◌+◌, Bool, ◌&&◌, nat_le, length}
+use Rattle.mb_mnemonics.specs.declared.line.Ending.{Ending}
+use Rattle.mb_mnemonics.specs.declared.line.Ending.TheVariants as ending
 use Rattle.mb_mnemonics.specs.declared.line.Line.{Line}
+use Rattle.mb_mnemonics.specs.declared.reading.Part.{Part}
+use Rattle.mb_mnemonics.specs.declared.reading.Said.{Said as CodeSaid}
+use Rattle.mb_mnemonics.specs.Lines.{patterns_of, stem_of}
+use Rattle.mb_mnemonics.specs.Operands.{Said}
 
--- no line has more than three operands, or more than two words before theirs
+-- how long the ending of a name is at most
+abbrev pub most_ending : Ending → ℕ
+most_ending ending.Plain = 0
+most_ending _ = 2
+
+-- no line has more than three operands, more than two words before theirs, or a name of more than eight characters
 abbrev pub is_short : Line → Bool
-is_short l = nat_le (length l.operands.now) 3 && nat_le l.words 2
+is_short l =
+    nat_le (length (patterns_of l.operands)) 3 && nat_le l.words 2
+    && nat_le (length (stem_of l.stem) + most_ending l.ending) 8
 
--- The parts of the table, by families.
+abbrev pub part_said : Part → Said
+part_said p = record { first = p.first; second = p.second; third = p.third; own = p.own.items }
 
-abbrev pub move_in : Instr → Option Move
-move_in (instr.Move i) = Some i
-move_in _ = None
-
-abbrev pub arith_in : Instr → Option Arith
-arith_in (instr.Arith i) = Some i
-arith_in _ = None
-
-abbrev pub system_in : Instr → Option System
-system_in (instr.System i) = Some i
-system_in _ = None
-
--- NOP where it is of another family
-abbrev pub flow_in : Instr → Flow
-flow_in (instr.Flow i) = i
-flow_in _ = flow.Nop
+abbrev pub said_of : CodeSaid → Said
+said_of s = record { first = s.first; second = s.second; third = s.third; own = s.own.items }

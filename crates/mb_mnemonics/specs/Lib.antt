@@ -2,10 +2,7 @@ pub mod Ranges
 pub mod Sizes
 pub mod Modes
 pub mod Lines
-pub mod Table
 pub mod Operands
-pub mod Words
-pub mod Meant
 pub mod Means
 pub mod Values
 pub mod Code

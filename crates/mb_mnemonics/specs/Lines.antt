@@ -1,39 +1,58 @@
 -- Lines of the table, and the names that they have.
-use Rattle.std.specs.Prelude.{ℕ, Bool, nat_lt, List, [], ◌∷◌, Option, Some, None, if◌then◌else◌}
-use Rattle.std.specs.Prelude.{codes, take, drop, length}
+use Rattle.std.specs.Prelude.{ℕ, Bool, ◌==◌, nat_lt, List, [], ◌∷◌, Option, Some, None, if◌then◌else◌}
+use Rattle.std.specs.Prelude.{codes, map, take, drop, length}
 use Rattle.std.specs.Str.{str_eq_ignore_ascii_case}
 use Rattle.mb_instr.specs.declared.kinds.Condition.{Condition}
 use Rattle.mb_instr.specs.declared.kinds.Condition.TheVariants as condition
+use Rattle.mb_instr.specs.Kinds.{condition_bits}
 use Rattle.mb_mnemonics.specs.declared.endings.NameOf.{NameOf as Named}
 use Rattle.mb_mnemonics.specs.declared.line.Ending.{Ending}
 use Rattle.mb_mnemonics.specs.declared.line.Ending.TheVariants as ending
 use Rattle.mb_mnemonics.specs.declared.line.Line.{Line}
+use Rattle.mb_mnemonics.specs.declared.line.Patterns.{Patterns}
+use Rattle.mb_mnemonics.specs.declared.line.Patterns.TheVariants.{Nothing, One, Two, Three}
+use Rattle.mb_mnemonics.specs.declared.line.Stem.{Stem}
 use Rattle.mb_mnemonics.specs.declared.pattern.Pattern.{Pattern}
-use Rattle.mb_mnemonics.specs.declared.row.Row.{Row}
 use Rattle.mb_mnemonics.specs.declared.sizes.Sizes.{Sizes}
+use Rattle.mb_mnemonics.specs.declared.table.TheConstants.{LINES}
 
 -- a line: the name without its ending, what it ends with, the sizes, the operands, how many words stand between the
--- first word and the operands', and the row
+-- first word and the operands', the first word with zeros in its fields, the bits of it that belong to no field, and
+-- such bits of the word behind it
 pub record Entry : Type 0 where
   pub stem : List ℕ
   pub ending : Ending
   pub sizes : Sizes
   pub operands : List Pattern
   pub words : ℕ
-  pub row : Row
+  pub first : ℕ
+  pub fixed : ℕ
+  pub second : ℕ
+
+abbrev pub stem_of : Stem → List ℕ
+stem_of s = take s.length s.letters
+
+abbrev pub patterns_of : Patterns → List Pattern
+patterns_of Nothing = []
+patterns_of (One p) = p ∷ []
+patterns_of (Two p q) = p ∷ q ∷ []
+patterns_of (Three p q r) = p ∷ q ∷ r ∷ []
 
 abbrev pub entry_of : Line → Entry
 entry_of l = record {
-  stem = l.stem.now;
+  stem = stem_of l.stem;
   ending = l.ending;
   sizes = l.sizes;
-  operands = l.operands.now;
+  operands = patterns_of l.operands;
   words = l.words;
-  row = l.row;
+  first = l.first;
+  fixed = l.fixed;
+  second = l.second;
 }
 
-abbrev pub line : List ℕ → Ending → Sizes → List Pattern → ℕ → Row → Entry
-line n e s os w r = record { stem = n; ending = e; sizes = s; operands = os; words = w; row = r }
+-- the table: a line for each name and form
+unfoldable pub lines : List Entry
+lines = map entry_of LINES
 
 -- ---- conditions
 
@@ -82,6 +101,11 @@ abbrev pub endings : Ending → List NameOf
 endings ending.Plain = called [] condition.True ∷ []
 endings ending.Condition = conditions
 endings ending.Branch = branch_conditions
+
+-- the ending with the condition of a number; a name without a condition has none
+abbrev pub ending_name : List NameOf → ℕ → List ℕ
+ending_name [] number = []
+ending_name (n ∷ ns) number = if condition_bits n.condition == number then n.name else ending_name ns number
 
 -- the condition that a name's end says, in either case
 abbrev pub condition_in : List NameOf → List ℕ → Option Condition

@@ -1,5 +1,5 @@
 -- What a statement means.
-use Rattle.std.specs.Prelude.{ℕ, ◌+◌, ◌*◌, ◌%◌, ◌^◌, nat_lt, ℤ, Bool, true, ◌&&◌, List, [], ◌∷◌, Option, Some}
+use Rattle.std.specs.Prelude.{ℕ, ◌+◌, ◌*◌, ◌%◌, ◌^◌, ◌==◌, ℤ, Bool, List, [], ◌∷◌, ◌++◌, take, length, Option, Some}
 use Rattle.std.specs.Prelude.{None, Result, Ok, Err}
 use Rattle.std.specs.Prelude.{if◌then◌else◌, is_some, ok_or, option_map, option_and_then}
 use Rattle.std.specs.Option.{option_or}
@@ -7,19 +7,18 @@ use Rattle.std.specs.List.{list_any}
 use Rattle.mb_instr.specs.declared.size.Size.{Size}
 use Rattle.mb_instr.specs.declared.kinds.Condition.{Condition}
 use Rattle.mb_instr.specs.declared.instruction.Instr.{Instr}
-use Rattle.mb_instr.specs.Opcodes.{is_opcode}
-use Rattle.mb_instr.specs.Rows.{row}
-use Rattle.mb_instr.specs.Shapes.{Row, further}
+use Rattle.mb_instr.specs.Kinds.{condition_bits}
+use Rattle.mb_decode.specs.declared.front.Decoded.{Decoded}
+use Rattle.mb_decode.specs.declared.front.Decoded.TheVariants.{Whole}
+use Rattle.mb_decode.specs.Decodes.{decode_of}
 use Rattle.mb_syntax.specs.declared.statement.SizeLetter.{SizeLetter}
 use Rattle.mb_syntax.specs.declared.operand.Operand.{Operand}
 use Rattle.mb_mnemonics.specs.declared.fault.MeansFault.{MeansFault}
 use Rattle.mb_mnemonics.specs.declared.fault.MeansFault.TheVariants as fault
-use Rattle.mb_mnemonics.specs.Sizes.{size_in}
+use Rattle.mb_mnemonics.specs.Sizes.{size_in, size_bits_by}
 use Rattle.mb_mnemonics.specs.declared.front.Form.{Form as CodeForm}
-use Rattle.mb_mnemonics.specs.Lines.{Entry, entry_of, condition_by}
-use Rattle.mb_mnemonics.specs.Table.{lines}
-use Rattle.mb_mnemonics.specs.Operands.{takes_operands, operands_words, nothing, with_operands}
-use Rattle.mb_mnemonics.specs.Meant.{meant}
+use Rattle.mb_mnemonics.specs.Lines.{Entry, entry_of, condition_by, lines}
+use Rattle.mb_mnemonics.specs.Operands.{Said, takes_operands, operands_words, in_first, operands_said}
 
 -- a line that a statement is written by, with the condition that the name says and the size
 pub record Form : Type 0 where
@@ -60,34 +59,36 @@ abbrev pub form_of : List ℕ → Option SizeLetter → List (Operand ℤ) → R
 form_of name letter os =
     ok_or (form_among lines name letter os) (if is_named lines name then fault.Operand else fault.Name)
 
--- what a statement of the form at the address says
-abbrev pub said : Form → List (Operand ℤ) → ℕ → Option Instr
-said f os at = option_map (λ p. meant f.entry.row p)
-    (with_operands f.entry.operands f.size at ((at + (2 + 2 * f.entry.words)) % 2 ^ 32) os (nothing f.size f.condition))
+-- the first word: the line's bits, the condition, the size and what the operands say
+abbrev pub first_word : Form → Said → ℕ
+first_word f said =
+    (f.entry.first + condition_bits f.condition * 2 ^ 8 + size_bits_by f.entry.sizes f.size + said.first) % 2 ^ 16
 
--- a value of its row of the table of instructions
-abbrev pub are_words : List ℕ → Bool
-are_words [] = true
-are_words (w ∷ ws) = nat_lt w (2 ^ 16) && are_words ws
+-- the words of a form whose operands say this
+abbrev pub words_said : Form → Said → List ℕ
+words_said f said =
+    first_word f said ∷ take f.entry.words ((f.entry.second + said.second) % 2 ^ 16 ∷ said.third ∷ []) ++ said.own
 
-abbrev pub is_value : Row → Bool
-is_value r = r.legal && is_opcode r.opcode && are_words (further r)
+-- the words of a statement of the form at the address
+abbrev pub said : Form → List (Operand ℤ) → ℕ → Option (List ℕ)
+said f os at = option_map (words_said f)
+    (operands_said f.entry.operands f.size at ((at + (2 + 2 * f.entry.words)) % 2 ^ 32) os (in_first 0))
 
-abbrev pub is_instr : Instr → Bool
-is_instr i = is_value (row i)
+-- the instruction that so many words are, all of them
+abbrev pub whole : ℕ → Decoded → Result Instr MeansFault
+whole count (Whole i n) = if n == count then Ok i else Err fault.Operand
+whole count _ = Err fault.Operand
 
--- what is said, where its row has it
-abbrev pub told : Option Instr → Result Instr MeansFault
+abbrev pub told : Option (List ℕ) → Result Instr MeansFault
 told None = Err fault.Range
-told (Some i) = if is_instr i then Ok i else Err fault.Operand
+told (Some words) = whole (length words) (decode_of words)
 
 abbrev pub meaning_by : Result Form MeansFault → List (Operand ℤ) → ℕ → Result Instr MeansFault
 meaning_by (Ok f) os at = told (said f os at)
 meaning_by (Err e) os at = Err e
 
 -- The instruction that a statement at the address means: no line has its name, none of those has its size and operands,
--- a number is out of its range, or the first line that has them says it. Registers are 0 to 7: at last the row decides
--- whether it has the value.
+-- a number is out of its range, or the words of the first line that has them are decoded as it.
 abbrev pub meaning : List ℕ → Option SizeLetter → List (Operand ℤ) → ℕ → Result Instr MeansFault
 meaning name letter os at = meaning_by (form_of name letter os) os at
 

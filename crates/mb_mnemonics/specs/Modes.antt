@@ -1,15 +1,11 @@
--- Addressing modes as they are written, and the operands that they mean.
-use Rattle.std.specs.Prelude.{ℕ, ◌+◌, ◌*◌, ◌%◌, ◌^◌, ℤ, Bool, true, false, Option, Some, None, if◌then◌else◌}
-use Rattle.std.specs.Prelude.{option_map, option_and_then}
+-- Addressing modes as they are written, and their words.
+use Rattle.std.specs.Prelude.{ℕ, ◌+◌, ◌*◌, ◌%◌, ◌^◌, ℤ, Bool, true, false, List, [], ◌∷◌, ◌++◌, Option}
+use Rattle.std.specs.Prelude.{Some, None, if◌then◌else◌, option_map, option_and_then}
 use Rattle.mb_instr.specs.declared.size.Size.{Size}
 use Rattle.mb_instr.specs.declared.size.Size.TheVariants as size
-use Rattle.mb_instr.specs.declared.operand.Ea.{Ea}
-use Rattle.mb_instr.specs.declared.operand.Ea.TheVariants as ea
-use Rattle.mb_instr.specs.declared.operand.Ext.{Ext}
-use Rattle.mb_instr.specs.declared.operand.Ext.TheVariants.{Brief, Full}
 use Rattle.mb_instr.specs.declared.operand.OperandClass.{OperandClass}
 use Rattle.mb_instr.specs.Kinds.{flag}
-use Rattle.mb_instr.specs.Operands.{allows}
+use Rattle.mb_instr.specs.Operands.{allows, immediate, long_words}
 use Rattle.mb_syntax.specs.declared.mode.Width.{Width}
 use Rattle.mb_syntax.specs.declared.mode.Width.TheVariants as width
 use Rattle.mb_syntax.specs.declared.mode.Scale.{Scale}
@@ -122,8 +118,8 @@ index_bits i =
     flag i.is_address * 2 ^ 15 + i.register % 8 * 2 ^ 12 + flag (is_long i.width) * 2 ^ 11 + scale_bits i.scale * 2 ^ 9
 
 -- `rnnn lkk0 dddddddd`
-abbrev pub brief : Index → ℕ → Ext
-brief i d = Brief (index_bits i + d % 2 ^ 8)
+abbrev pub brief : Index → ℕ → ℕ
+brief i d = index_bits i + d % 2 ^ 8
 
 -- the field that says how long a displacement is: none, a word, a long
 abbrev pub displacement_bits : Option (Displacement ℤ) → ℕ
@@ -154,17 +150,23 @@ abbrev pub width_size : Width → Size
 width_size width.Word = size.Word
 width_size width.Long = size.Long
 
--- a displacement of a full form, 0 where there is none
-abbrev pub plain : Option (Displacement ℤ) → Option ℕ
-plain None = Some 0
-plain (Some d) = number (elim d.width [ width.Word ↦ range.Displacement16 | width.Long ↦ range.Long ]) d.value
+-- a value of so many bits as words
+abbrev pub words_of : Width → ℕ → List ℕ
+words_of width.Word v = v ∷ []
+words_of width.Long v = long_words v
+
+-- a displacement of a full form, where there is one
+abbrev pub plain : Option (Displacement ℤ) → Option (List ℕ)
+plain None = Some []
+plain (Some d) = option_map (words_of d.width)
+    (number (elim d.width [ width.Word ↦ range.Displacement16 | width.Long ↦ range.Long ]) d.value)
 
 -- the same, to a target
-abbrev pub from_pc : ℕ → Option (Displacement ℤ) → Option ℕ
-from_pc place None = Some 0
-from_pc place (Some d) = displacement (width_size d.width) place d.value
+abbrev pub from_pc : ℕ → Option (Displacement ℤ) → Option (List ℕ)
+from_pc place None = Some []
+from_pc place (Some d) = option_map (words_of d.width) (displacement (width_size d.width) place d.value)
 
-abbrev pub base_displacement : ℕ → FullForm ℤ → Option ℕ
+abbrev pub base_displacement : ℕ → FullForm ℤ → Option (List ℕ)
 base_displacement place f = elim f.base [
   | base.Address n ↦ plain f.displacement
   | base.NoAddress n ↦ plain f.displacement
@@ -172,33 +174,21 @@ base_displacement place f = elim f.base [
   | base.NoPc ↦ plain f.displacement
 ]
 
--- the extension words of a full form of which the first stands at the place
-abbrev pub full : ℕ → FullForm ℤ → Option Ext
-full place f =
-    option_and_then (λ bd. option_map (λ od. Full (full_word f) bd od) (plain (outer_of f))) (base_displacement place f)
+-- the words of a full form of which the first stands at the place
+abbrev pub full : ℕ → FullForm ℤ → Option (List ℕ)
+full place f = option_and_then (λ bd. option_map (λ od. full_word f ∷ bd ++ od) (plain (outer_of f)))
+    (base_displacement place f)
 
-abbrev pub with_base : Base → Ext → Ea
-with_base (base.Address n) e = ea.Index n e
-with_base (base.NoAddress n) e = ea.Index n e
-with_base base.Pc e = ea.PcIndex e
-with_base base.NoPc e = ea.PcIndex e
-
--- ---- operands
-
--- The operand of the size that a mode means whose first extension word stands at the place; none where a number is out
--- of its range.
-abbrev pub ea_of : Size → ℕ → Mode ℤ → Option Ea
-ea_of s place (Data n) = Some (ea.Dn n)
-ea_of s place (Address n) = Some (ea.An n)
-ea_of s place (Indirect n) = Some (ea.Ind n)
-ea_of s place (PostIncrement n) = Some (ea.Post n)
-ea_of s place (PreDecrement n) = Some (ea.Pre n)
-ea_of s place (Displaced n e) = option_map (λ d. ea.Disp n d) (number range.Displacement16 e)
-ea_of s place (Indexed n e i) = option_map (λ d. ea.Index n (brief i d)) (number range.Displacement8 e)
-ea_of s place (Absolute e w) =
-    if is_word w then option_map (λ a. ea.AbsW a) (number range.Word e)
-    else option_map (λ a. ea.AbsL a) (number range.Long e)
-ea_of s place (PcDisplaced e) = option_map (λ d. ea.PcDisp d) (displacement size.Word place e)
-ea_of s place (PcIndexed e i) = option_map (λ d. ea.PcIndex (brief i d)) (displacement size.Byte place e)
-ea_of s place (FullMode f) = option_map (λ e. with_base f.base e) (full place f)
-ea_of s place (Immediate e) = option_map (λ v. ea.Imm v) (number (immediate_range s) e)
+-- The words of the mode behind the first word, for an operand of the size, where the first of them stands at the place;
+-- none where a number is out of its range.
+abbrev pub extension_words : Size → ℕ → Mode ℤ → Option (List ℕ)
+extension_words s place (Displaced n e) = option_map (λ d. d ∷ []) (number range.Displacement16 e)
+extension_words s place (Indexed n e i) = option_map (λ d. brief i d ∷ []) (number range.Displacement8 e)
+extension_words s place (Absolute e w) =
+    if is_word w then option_map (λ a. a ∷ []) (number range.Word e)
+    else option_map long_words (number range.Long e)
+extension_words s place (PcDisplaced e) = option_map (λ d. d ∷ []) (displacement size.Word place e)
+extension_words s place (PcIndexed e i) = option_map (λ d. brief i d ∷ []) (displacement size.Byte place e)
+extension_words s place (FullMode f) = full place f
+extension_words s place (Immediate e) = option_map (immediate s) (number (immediate_range s) e)
+extension_words s place _ = Some []

@@ -1,13 +1,13 @@
 -- The operands that a line takes, and what they say.
 use Rattle.std.specs.Prelude.{ℕ, ◌+◌, ◌*◌, ◌%◌, ◌^◌, ℤ, pos, Bool, true, false, ◌&&◌, ◌||◌, not}
-use Rattle.std.specs.Prelude.{List, [], ◌∷◌, Option, Some, None, if◌then◌else◌, option_map, option_and_then}
+use Rattle.std.specs.Prelude.{List, [], ◌∷◌, ◌++◌, Option, Some, None, if◌then◌else◌, option_map, option_and_then}
+use Rattle.std.specs.Int.{reverse_bits, w16}
 use Rattle.mb_instr.specs.declared.control.ControlRegister.{ControlRegister}
 use Rattle.mb_instr.specs.declared.control.ControlRegister.TheVariants as control
 use Rattle.mb_instr.specs.declared.size.Size.{Size}
 use Rattle.mb_instr.specs.declared.size.Size.TheVariants as size
-use Rattle.mb_instr.specs.declared.operand.Ea.TheVariants.{Dn}
-use Rattle.mb_instr.specs.declared.kinds.Caches.TheVariants.{Neither}
-use Rattle.mb_instr.specs.declared.kinds.Condition.{Condition}
+use Rattle.mb_instr.specs.Kinds.{caches_bits}
+use Rattle.mb_instr.specs.Operands.{immediate, long_words}
 use Rattle.mb_instr.specs.Control.{code_of}
 use Rattle.mb_syntax.specs.declared.mode.Mode.{Mode}
 use Rattle.mb_syntax.specs.declared.mode.Mode.TheVariants as mode
@@ -16,8 +16,6 @@ use Rattle.mb_syntax.specs.declared.operand.Operand.TheVariants as operand
 use Rattle.mb_syntax.specs.declared.operand.BitField.{BitField}
 use Rattle.mb_syntax.specs.declared.operand.FieldNumber.{FieldNumber}
 use Rattle.mb_syntax.specs.declared.operand.FieldNumber.TheVariants as field_number
-use Rattle.mb_mnemonics.specs.declared.parts.Named.{Named}
-use Rattle.mb_mnemonics.specs.declared.parts.Parts.{Parts}
 use Rattle.mb_mnemonics.specs.declared.range.Range.{Range}
 use Rattle.mb_mnemonics.specs.declared.range.Range.TheVariants as range
 use Rattle.mb_mnemonics.specs.declared.pattern.Place.{Place}
@@ -25,7 +23,8 @@ use Rattle.mb_mnemonics.specs.declared.pattern.Place.TheVariants.{X, Y, Upper, M
 use Rattle.mb_mnemonics.specs.declared.pattern.Pattern.{Pattern}
 use Rattle.mb_mnemonics.specs.declared.pattern.Pattern.TheVariants as pattern
 use Rattle.mb_mnemonics.specs.Ranges.{number, immediate_range, branch}
-use Rattle.mb_mnemonics.specs.Modes.{in_class, is_word, lower_of, mode_words, immediate_words, ea_of}
+use Rattle.mb_mnemonics.specs.Modes.{in_class, is_word, mode_of, lower_of, mode_words, immediate_words}
+use Rattle.mb_mnemonics.specs.Modes.{extension_words}
 
 -- ---- forms
 
@@ -70,7 +69,7 @@ is_long_address _ = false
 -- whether a mode is of the pattern's form at the size
 abbrev pub takes_mode : Pattern → Size → Mode ℤ → Bool
 takes_mode (pattern.Mode class) s m = in_class class s m
-takes_mode (pattern.Source class) s m = in_class class s m
+takes_mode (pattern.Destination class) s m = in_class class s m
 takes_mode (pattern.Memory class) s m = in_class class s m && not (is_data m)
 takes_mode pattern.DataMode s m = is_data m
 takes_mode (pattern.Data place) s m = is_data m
@@ -82,8 +81,10 @@ takes_mode (pattern.PreDecrement place) s m = is_pre_decrement m
 takes_mode pattern.Immediate s m = is_immediate_form m
 takes_mode (pattern.Quick r) s m = is_immediate_form m
 takes_mode pattern.WordNumber s m = is_immediate_form m
+takes_mode (pattern.Distance reach) s m = is_immediate_form m
 takes_mode (pattern.Target reach) s m = is_target m
 takes_mode pattern.RegisterList s m = is_data m || is_address m
+takes_mode pattern.ReversedList s m = is_data m || is_address m
 takes_mode pattern.Displaced s m = is_displaced m
 takes_mode pattern.Absolute s m = is_long_address m
 takes_mode _ s m = false
@@ -113,7 +114,7 @@ takes_operand p s (operand.Field m f) = takes_field p s m
 takes_operand p s operand.Sr = elim p [ pattern.Sr ↦ true | _ ↦ false ]
 takes_operand p s operand.Ccr = elim p [ pattern.Ccr ↦ true | _ ↦ false ]
 takes_operand p s (operand.Control c) = takes_control p c
-takes_operand p s (operand.List l) = elim p [ pattern.RegisterList ↦ true | _ ↦ false ]
+takes_operand p s (operand.List l) = elim p [ pattern.RegisterList ↦ true | pattern.ReversedList ↦ true | _ ↦ false ]
 takes_operand p s (operand.Pair h l) = takes_pair p
 takes_operand p s (operand.IndirectPair n m) = elim p [ pattern.IndirectPairs ↦ true | _ ↦ false ]
 takes_operand p s (operand.Caches c) = elim p [ pattern.Caches ↦ true | _ ↦ false ]
@@ -128,10 +129,11 @@ takes_operands _ s _ = false
 -- how many words an operand of the pattern's form has of its own
 abbrev pub operand_words : Pattern → Size → Operand ℤ → ℕ
 operand_words (pattern.Mode class) s (operand.Mode m) = mode_words s m
-operand_words (pattern.Source class) s (operand.Mode m) = mode_words s m
+operand_words (pattern.Destination class) s (operand.Mode m) = mode_words s m
 operand_words (pattern.Memory class) s (operand.Mode m) = mode_words s m
 operand_words (pattern.FieldMode class) s (operand.Field m f) = mode_words s m
 operand_words pattern.Immediate s o = immediate_words s
+operand_words (pattern.Distance size.Long) s o = 2
 operand_words (pattern.Target size.Long) s o = 2
 operand_words pattern.Absolute s o = 2
 operand_words _ s o = 0
@@ -142,48 +144,50 @@ operands_words _ s _ = 0
 
 -- ---- what operands say
 
-abbrev pub no_names : Named
-no_names = record { upper = 0; middle = 0; lower = 0 }
+-- what operands say: bits of the first word and of the two behind it, and words of their own
+pub record Said : Type 0 where
+  pub first : ℕ
+  pub second : ℕ
+  pub third : ℕ
+  pub own : List ℕ
 
--- what a statement says before its operands are read
-abbrev pub nothing : Size → Condition → Parts
-nothing s c = record {
-  size = s;
-  condition = c;
-  x = 0;
-  y = 0;
-  first = no_names;
-  second = no_names;
-  caches = Neither;
-  ea = Dn 0;
-  source = Dn 0;
-  quick = 0;
-  word = 0;
-  long = 0;
+abbrev pub in_first : ℕ → Said
+in_first bits = record { first = bits; second = 0; third = 0; own = [] }
+
+abbrev pub in_second : ℕ → Said
+in_second bits = record { first = 0; second = bits; third = 0; own = [] }
+
+abbrev pub in_both : ℕ → ℕ → Said
+in_both bits more = record { first = 0; second = bits; third = more; own = [] }
+
+abbrev pub in_own : List ℕ → Said
+in_own words = record { first = 0; second = 0; third = 0; own = words }
+
+-- what is said before, and what an operand says
+abbrev pub together : Said → Said → Said
+together a b = record {
+  first = (a.first + b.first) % 2 ^ 16;
+  second = (a.second + b.second) % 2 ^ 16;
+  third = (a.third + b.third) % 2 ^ 16;
+  own = a.own ++ b.own;
 }
 
 -- a register's number at its place in a word behind the first
-abbrev pub name_at : Place → ℕ → Named → Named
-name_at Upper n names = record names { upper = n }
-name_at Middle n names = record names { middle = n }
-name_at Lower n names = record names { lower = n }
-name_at Both n names = record { upper = n; middle = names.middle; lower = n }
-name_at _ n names = names
+abbrev pub place_bits : Place → ℕ → ℕ
+place_bits Upper n = n % 16 * 2 ^ 12
+place_bits Middle n = n % 8 * 2 ^ 6
+place_bits Both n = n % 8 * 2 ^ 12 + n % 8
+place_bits _ n = n % 8
 
--- a register's number at its place; in a word behind the first an address register has 8 added
-abbrev pub with_register : Place → Bool → ℕ → Parts → Parts
-with_register X is_address n parts = record parts { x = n }
-with_register Y is_address n parts = record parts { y = n }
-with_register place is_address n parts =
-    record parts { first = name_at place ((if is_address then 8 else 0) + n % 8) parts.first }
+-- a register's number at its place
+abbrev pub register_at : Place → ℕ → Said
+register_at X n = in_first (n % 8 * 2 ^ 9)
+register_at Y n = in_first (n % 8)
+register_at place n = in_second (place_bits place n)
 
--- registers of the same place in the two words behind the first
-abbrev pub with_both : Place → ℕ → ℕ → Parts → Parts
-with_both place n m parts = record parts { first = name_at place n parts.first; second = name_at place m parts.second }
-
--- a register as a list of one
-abbrev pub list_of : Bool → ℕ → ℕ
-list_of is_address n = 2 ^ ((if is_address then 8 else 0) + n % 8)
+-- the number of the register that a mode names, where an address register has 8 added
+abbrev pub general : Mode ℤ → ℕ
+general m = (if is_data m then 0 else 8) + lower_of m % 8
 
 -- a bit field's offset or width: a register with a bit that says so, or a number
 abbrev pub field_part : Range → FieldNumber ℤ → Option ℕ
@@ -195,17 +199,16 @@ abbrev pub field_bits : BitField ℤ → Option ℕ
 field_bits f = option_and_then
     (λ o. option_map (λ w. o * 2 ^ 6 + w) (field_part range.Width f.width)) (field_part range.Offset f.offset)
 
--- the displacement of a branch, where the length of its displacement has it
-abbrev pub with_displacement : Size → ℕ → Parts → Parts
-with_displacement size.Byte d parts = record parts { quick = d % 2 ^ 8 }
-with_displacement size.Word d parts = record parts { word = d % 2 ^ 16 }
-with_displacement size.Long d parts = record parts { long = d }
+-- a number in the first word: 8 is spelled 0
+abbrev pub quick_bits : Range → ℕ → ℕ
+quick_bits range.Count v = v % 8 * 2 ^ 9
+quick_bits _ v = v % 2 ^ 8
 
--- what a number says by its pattern
-abbrev pub with_number : Pattern → Size → ℤ → Parts → Option Parts
-with_number pattern.Immediate s e parts = option_map (λ v. record parts { long = v }) (number (immediate_range s) e)
-with_number (pattern.Quick r) s e parts = option_map (λ v. record parts { quick = v % 2 ^ 8 }) (number r e)
-with_number _ s e parts = option_map (λ v. record parts { word = v % 2 ^ 16 }) (number range.Word e)
+-- a displacement of the size, where the length of its displacement has it
+abbrev pub reach_said : Size → ℕ → Said
+reach_said size.Byte d = in_first (d % 2 ^ 8)
+reach_said size.Word d = in_second (d % 2 ^ 16)
+reach_said size.Long d = in_own (long_words d)
 
 -- the number that a mode has
 abbrev pub value_of : Mode ℤ → ℤ
@@ -214,63 +217,72 @@ value_of (mode.Absolute e w) = e
 value_of (mode.Displaced n e) = e
 value_of _ = pos 0
 
--- what an operand of the size says whose words stand here
-abbrev pub with_ea : Size → ℕ → Mode ℤ → Parts → Option Parts
-with_ea s here m parts = option_map (λ a. record parts { ea = a }) (ea_of s here m)
+-- bits 5 to 0 of the first word, and those of MOVE's destination, 11 to 6
+abbrev pub source_bits : Mode ℤ → ℕ
+source_bits m = mode_of m * 2 ^ 3 + lower_of m % 8
 
--- the register that a mode names, at its place
-abbrev pub with_register_of : Place → Mode ℤ → Parts → Option Parts
-with_register_of place m parts = Some (with_register place (not (is_data m)) (lower_of m) parts)
+abbrev pub destination_bits : Mode ℤ → ℕ
+destination_bits m = lower_of m % 8 * 2 ^ 9 + mode_of m * 2 ^ 6
 
--- what a mode with a number says by its pattern, in a statement at the address
-abbrev pub with_value : Pattern → Size → ℕ → Mode ℤ → Parts → Option Parts
-with_value pattern.Immediate s at m parts = with_number pattern.Immediate s (value_of m) parts
-with_value (pattern.Quick r) s at m parts = with_number (pattern.Quick r) s (value_of m) parts
-with_value pattern.WordNumber s at m parts = with_number pattern.WordNumber s (value_of m) parts
-with_value (pattern.Target reach) s at m parts =
-    option_map (λ d. with_displacement reach d parts) (branch reach at (value_of m))
-with_value pattern.Displaced s at m parts =
-    option_map (λ d. record parts { y = lower_of m; word = d % 2 ^ 16 }) (number range.Displacement16 (value_of m))
-with_value pattern.Absolute s at m parts =
-    option_map (λ a. record parts { long = a }) (number range.Long (value_of m))
-with_value _ s at m parts = Some parts
+-- what an operand of the size says with these bits, whose words stand here
+abbrev pub ea_said : Size → ℕ → ℕ → Mode ℤ → Option Said
+ea_said s here bits m =
+    option_map (λ ws. record { first = bits; second = 0; third = 0; own = ws }) (extension_words s here m)
+
+-- a list of registers
+abbrev pub list_said : Pattern → ℕ → Said
+list_said pattern.ReversedList l = in_second (reverse_bits w16 l)
+list_said _ l = in_second l
 
 -- what a mode says by its pattern, in a statement at the address, whose own words stand here
-abbrev pub with_mode : Pattern → Size → ℕ → ℕ → Mode ℤ → Parts → Option Parts
-with_mode (pattern.Mode class) s at here m parts = with_ea s here m parts
-with_mode (pattern.Memory class) s at here m parts = with_ea s here m parts
-with_mode pattern.DataMode s at here m parts = with_ea s here m parts
-with_mode (pattern.Source class) s at here m parts = option_map (λ a. record parts { source = a }) (ea_of s here m)
-with_mode (pattern.Data place) s at here m parts = with_register_of place m parts
-with_mode (pattern.Address place) s at here m parts = with_register_of place m parts
-with_mode (pattern.Register place) s at here m parts = with_register_of place m parts
-with_mode (pattern.Indirect place) s at here m parts = with_register_of place m parts
-with_mode (pattern.PostIncrement place) s at here m parts = with_register_of place m parts
-with_mode (pattern.PreDecrement place) s at here m parts = with_register_of place m parts
-with_mode pattern.RegisterList s at here m parts = Some (record parts { word = list_of (not (is_data m)) (lower_of m) })
-with_mode p s at here m parts = with_value p s at m parts
+abbrev pub mode_said : Pattern → Size → ℕ → ℕ → Mode ℤ → Option Said
+mode_said (pattern.Mode class) s at here m = ea_said s here (source_bits m) m
+mode_said (pattern.Memory class) s at here m = ea_said s here (source_bits m) m
+mode_said pattern.DataMode s at here m = ea_said s here (source_bits m) m
+mode_said (pattern.Destination class) s at here m = ea_said s here (destination_bits m) m
+mode_said (pattern.Data place) s at here m = Some (register_at place (general m))
+mode_said (pattern.Address place) s at here m = Some (register_at place (general m))
+mode_said (pattern.Register place) s at here m = Some (register_at place (general m))
+mode_said (pattern.Indirect place) s at here m = Some (register_at place (general m))
+mode_said (pattern.PostIncrement place) s at here m = Some (register_at place (general m))
+mode_said (pattern.PreDecrement place) s at here m = Some (register_at place (general m))
+mode_said pattern.Immediate s at here m =
+    option_map (λ v. in_own (immediate s v)) (number (immediate_range s) (value_of m))
+mode_said (pattern.Quick r) s at here m = option_map (λ v. in_first (quick_bits r v)) (number r (value_of m))
+mode_said pattern.WordNumber s at here m = option_map in_second (number range.Word (value_of m))
+mode_said (pattern.Distance reach) s at here m =
+    option_map (reach_said reach) (number (immediate_range reach) (value_of m))
+mode_said (pattern.Target reach) s at here m = option_map (reach_said reach) (branch reach at (value_of m))
+mode_said pattern.RegisterList s at here m = Some (list_said pattern.RegisterList (2 ^ general m))
+mode_said pattern.ReversedList s at here m = Some (list_said pattern.ReversedList (2 ^ general m))
+mode_said pattern.Displaced s at here m =
+    option_map (λ d. record { first = lower_of m % 8; second = d; third = 0; own = [] })
+    (number range.Displacement16 (value_of m))
+mode_said pattern.Absolute s at here m = option_map (λ a. in_own (long_words a)) (number range.Long (value_of m))
+mode_said _ s at here m = Some (in_first 0)
 
-abbrev pub with_pair : Pattern → ℕ → ℕ → Parts → Parts
-with_pair (pattern.Pairs place) n m parts = with_both place n m parts
-with_pair (pattern.Pair h l) n m parts = with_register l false m (with_register h false n parts)
-with_pair _ n m parts = parts
+abbrev pub pair_said : Pattern → ℕ → ℕ → Said
+pair_said (pattern.Pairs place) n m = in_both (place_bits place n) (place_bits place m)
+pair_said (pattern.Pair h l) n m = in_second ((place_bits h n + place_bits l m) % 2 ^ 16)
+pair_said _ n m = in_first 0
 
--- What an operand of the pattern's form says, beside what was said before, in a statement at the address, where the
--- operand's own words stand here; none where a number is out of its range.
-abbrev pub with_operand : Pattern → Size → ℕ → ℕ → Operand ℤ → Parts → Option Parts
-with_operand p s at here (operand.Mode m) parts = with_mode p s at here m parts
-with_operand p s at here (operand.Field m f) parts = option_and_then
-    (λ w. option_map (λ a. record parts { ea = a; word = w }) (ea_of s here m)) (field_bits f)
-with_operand p s at here (operand.Control c) parts = Some (record parts { word = code_of c })
-with_operand p s at here (operand.List l) parts = Some (record parts { word = l })
-with_operand p s at here (operand.Pair n m) parts = Some (with_pair p n m parts)
-with_operand p s at here (operand.IndirectPair n m) parts = Some (with_both Upper n m parts)
-with_operand p s at here (operand.Caches c) parts = Some (record parts { caches = c })
-with_operand p s at here _ parts = Some parts
+-- What an operand of the pattern's form says in a statement at the address, where its own words stand here; none where a
+-- number is out of its range.
+abbrev pub operand_said : Pattern → Size → ℕ → ℕ → Operand ℤ → Option Said
+operand_said p s at here (operand.Mode m) = mode_said p s at here m
+operand_said p s at here (operand.Field m f) = option_and_then
+    (λ w. option_map (λ ws. record { first = source_bits m; second = w; third = 0; own = ws }) (extension_words s here m))
+    (field_bits f)
+operand_said p s at here (operand.Control c) = Some (in_second (code_of c))
+operand_said p s at here (operand.List l) = Some (list_said p l)
+operand_said p s at here (operand.Pair n m) = Some (pair_said p n m)
+operand_said p s at here (operand.IndirectPair n m) = Some (in_both (place_bits Upper n) (place_bits Upper m))
+operand_said p s at here (operand.Caches c) = Some (in_first (caches_bits c * 2 ^ 6))
+operand_said p s at here _ = Some (in_first 0)
 
--- what the operands say, of which the first has its words here
-abbrev pub with_operands : List Pattern → Size → ℕ → ℕ → List (Operand ℤ) → Parts → Option Parts
-with_operands (p ∷ ps) s at here (o ∷ os) parts = option_and_then
-    (λ more. with_operands ps s at ((here + 2 * operand_words p s o) % 2 ^ 32) os more)
-    (with_operand p s at here o parts)
-with_operands _ s at here _ parts = Some parts
+-- what the operands say beside what was said before, of which the first has its words here
+abbrev pub operands_said : List Pattern → Size → ℕ → ℕ → List (Operand ℤ) → Said → Option Said
+operands_said (p ∷ ps) s at here (o ∷ os) said = option_and_then
+    (λ more. operands_said ps s at ((here + 2 * operand_words p s o) % 2 ^ 32) os (together said more))
+    (operand_said p s at here o)
+operands_said _ s at here _ said = Some said

@@ -1,7 +1,9 @@
 //! What stands behind the stem of a name, and the condition that it says.
 
-ghost use Rattle.std.specs.Prelude.{◌≡◌, map};
-ghost use Rattle.mb_mnemonics.specs.Lines.{name_of, condition_by, condition_in, same_letters, endings, entry_of};
+ghost use Rattle.std.specs.Prelude.{◌≡◌, ◌≤◌, length, map};
+ghost use Rattle.mb_mnemonics.specs.Code.{most_ending};
+ghost use Rattle.mb_mnemonics.specs.Lines.{name_of, condition_by, condition_in, same_letters};
+ghost use Rattle.mb_mnemonics.specs.Lines.{ending_name, endings, entry_of};
 
 use crate::line::{Ending, Line};
 use mb_instr::Condition;
@@ -72,7 +74,7 @@ fn condition_in(names: &[NameOf], text: &[u8]) -> Option<Condition>
 pub(crate) fn condition_by(line: &Line, name: &[u8]) -> Option<Condition>
     ensures { result ≡ condition_by (entry_of line.now) name.now }
 {
-    let stem = line.stem.as_bytes();
+    let stem = line.stem.letters();
     if name.len() < stem.len() {
         return None;
     }
@@ -82,4 +84,27 @@ pub(crate) fn condition_by(line: &Line, name: &[u8]) -> Option<Condition>
     } else {
         None
     }
+}
+
+/// The ending with the condition of the number, among endings.
+fn ending_among(names: &'static [NameOf], number: u8) -> &'static [u8]
+    ensures { result.now ≡ ending_name (map name_of names.now) number }
+{
+    match names {
+        [] => b"",
+        [name, names @ ..] => if name.condition.bits() == number {
+            name.name
+        } else {
+            ending_among(names, number)
+        },
+    }
+}
+
+/// The ending of a name with the condition of the number; a name without a condition has none.
+#[tactic(auto, using(crate::proofs::ShortEndings::short_ending))]
+pub fn ending_name(ending: Ending, number: u8) -> &'static [u8]
+    ensures name { result.now ≡ ending_name (endings ending) number }
+    ensures short { length result.now ≤ most_ending ending }
+{
+    ending_among(endings(ending), number)
 }

@@ -3,20 +3,20 @@
 ghost use Rattle.std.specs.Prelude.{◌≡◌, ◌*◌, ◌<◌, ◌≤◌, IfOk, IfSome, IsTrue, length, map, option_map};
 ghost use Rattle.std.specs.List.{list_all};
 ghost use Rattle.mb_instr.specs.Codes.{IsInstr};
-ghost use Rattle.mb_mnemonics.specs.Code.{is_short};
-ghost use Rattle.mb_mnemonics.specs.Lines.{entry_of};
+ghost use Rattle.mb_mnemonics.specs.Code.{is_short, said_of};
+ghost use Rattle.mb_mnemonics.specs.Lines.{entry_of, patterns_of};
 ghost use Rattle.mb_mnemonics.specs.Means.{form_said, said_form, form_by, form_among, is_named, form_of};
-ghost use Rattle.mb_mnemonics.specs.Means.{said, is_instr, meaning, length_by};
+ghost use Rattle.mb_mnemonics.specs.Means.{first_word, words_said, said, meaning, length_by};
 ghost use Rattle.mb_mnemonics.specs.Operands.{operands_words};
 
 use crate::endings::condition_by;
 use crate::fault::MeansFault;
-use crate::line::Line;
-use crate::meant::meant;
-use crate::pattern::Pattern;
-use crate::reading::{nothing, operand_words, takes_operands, with_operands};
+use crate::line::{Line, Patterns};
+use crate::modes::push_words;
+use crate::reading::{Said, add_operands, operand_words, takes_operands};
 use crate::table::lines;
-use mb_encode::encode;
+use arrayvec::ArrayVec;
+use mb_decode::{Decoded, decode};
 use mb_instr::{Condition, Instr, Size};
 use mb_syntax::{Operand, SizeLetter};
 
@@ -96,26 +96,47 @@ fn form_of(
     }
 }
 
-/// What a statement of the form at the address says; none where a number is out of its range.
-fn said(form: &Form, operands: &[Operand<i64>], at: u32) -> Option<Instr>
-    ensures { result ≡ said (form_said form.now) operands.now at }
+/// The words of a statement.
+type Words = ArrayVec<u16, 18>;
+
+/// The first word: the line's bits, the condition, the size and what the operands say.
+fn first_word(form: &Form, said: &Said) -> u16
+    ensures { result ≡ first_word (form_said form.now) (said_of said.now) }
 {
-    let here = at.wrapping_add(2 + 2 * u32::from(form.line.words));
-    let parts = nothing(form.size, form.condition);
-    let parts = with_operands(form.line.operands, form.size, at, here, operands, parts)?;
-    Some(meant(form.line.row, &parts))
+    let line = form.line;
+    line.first
+        .wrapping_add(u16::from(form.condition.bits()) * 256)
+        .wrapping_add(line.sizes.bits(form.size))
+        .wrapping_add(said.first)
 }
 
-/// Whether its row of the table of instructions has the value.
-#[tactic(auto, using(crate::proofs::Value::instr_is, crate::proofs::Value::is_no_instr))]
-fn is_instr(instruction: &Instr) -> bool
-    ensures value { result ≡ is_instr instruction.now }
-    ensures row { IsTrue result → IsInstr instruction.now }
+/// The words of a form whose operands say this.
+fn words_said(form: &Form, said: &Said) -> Words
+    requires { IsTrue (is_short form.now.line.now) }
+    ensures { result.items ≡ words_said (form_said form.now) (said_of said.now) }
 {
-    match encode(instruction) {
-        Ok(_) => true,
-        Err(_) => false,
+    let line = form.line;
+    let mut words = Words::new();
+    words.push(first_word(form, said));
+    if line.words > 0 {
+        words.push(line.second.wrapping_add(said.second));
     }
+    if line.words > 1 {
+        words.push(said.third);
+    }
+    push_words(&mut words, said.own.as_slice());
+    words
+}
+
+/// The words of a statement of the form at the address; none where a number is out of its range.
+fn said(form: &Form, operands: &[Operand<i64>], at: u32) -> Option<Words>
+    requires { IsTrue (is_short form.now.line.now) }
+    ensures { option_map (λ words. words.items) result ≡ said (form_said form.now) operands.now at }
+{
+    let here = at.wrapping_add(2 + 2 * u32::from(form.line.words));
+    let mut said = Said::new();
+    add_operands(form.line.operands, form.size, at, here, operands, &mut said)?;
+    Some(words_said(form, &said))
 }
 
 /// The instruction that a statement at the address means, of an operation's name, which may be in either case, its size
@@ -130,29 +151,26 @@ pub fn instruction_of(
     ensures row { IfOk result IsInstr }
 {
     let form = form_of(name, size, operands)?;
-    let instruction = said(&form, operands, at).ok_or(MeansFault::Range)?;
-    if is_instr(&instruction) {
-        Ok(instruction)
-    } else {
-        Err(MeansFault::Operand)
+    let words = said(&form, operands, at).ok_or(MeansFault::Range)?;
+    match decode(words.as_slice()) {
+        Decoded::Whole(instruction, length) if usize::from(length) == words.len() => Ok(
+            instruction,
+        ),
+        _ => Err(MeansFault::Operand),
     }
 }
 
 /// How many words the operands have.
-fn operands_words(patterns: &[Pattern], size: Size, operands: &[Operand<i64>]) -> u32
-    requires { length patterns.now ≤ 3 }
-    ensures value { result ≡ operands_words patterns.now size operands.now }
-    ensures few { result ≤ 5 * length patterns.now }
+pub fn operands_words(patterns: Patterns, size: Size, operands: &[Operand<i64>]) -> u32
+    ensures value { result ≡ operands_words (patterns_of patterns) size operands.now }
+    ensures few { result ≤ 5 * length (patterns_of patterns) }
 {
-    match patterns {
-        [] => 0,
-        [pattern, patterns @ ..] => match operands {
-            [] => 0,
-            [operand, operands @ ..] => {
-                u32::from(operand_words(*pattern, size, operand))
-                    + operands_words(patterns, size, operands)
-            }
-        },
+    match (patterns.split_first(), operands) {
+        (Some((pattern, patterns)), [operand, operands @ ..]) => {
+            u32::from(operand_words(pattern, size, operand))
+                + operands_words(patterns, size, operands)
+        }
+        _ => 0,
     }
 }
 

@@ -8,7 +8,7 @@ ghost use Rattle.mb_syntax.specs.declared.operand.Operand.{Operand};
 ghost use Rattle.mb_syntax.specs.declared.statement.SizeLetter.{SizeLetter};
 ghost use Rattle.mb_mnemonics.specs.Values.{valued};
 ghost use Rattle.mb_mnemonics.specs.Means.{is_named, length_by, meaning};
-ghost use Rattle.mb_mnemonics.specs.Table.{lines};
+ghost use Rattle.mb_mnemonics.specs.Lines.{lines};
 ghost use Rattle.mb_mnemonics.specs.declared.fault.MeansFault.TheVariants as fault;
 
 /// The length of a statement's instruction, and whether it has one, is the same whatever the values of its numbers are.

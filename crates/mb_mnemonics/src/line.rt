@@ -1,8 +1,18 @@
 //! Lines of the table.
 
+ghost use Rattle.std.specs.Prelude.{◌≡◌, ◌≤◌, ◌∷◌, IfSome, None, [], length};
+ghost use Rattle.mb_mnemonics.specs.Lines.{patterns_of, stem_of};
+
 use crate::pattern::Pattern;
-use crate::row::Row;
 use crate::sizes::Sizes;
+
+/// A name without its ending, in capital letters.
+#[derive(Clone, Copy)]
+pub struct Stem {
+    pub(crate) length: usize,
+    /// Zeros behind the letters.
+    pub(crate) letters: [u8; 8],
+}
 
 /// What stands behind the stem of a name.
 #[derive(Clone, Copy, Debug, PartialEq, Eq)]
@@ -15,16 +25,52 @@ pub enum Ending {
     Branch,
 }
 
+/// The operands of a line, in the order in which they are written. Their words stand in the same order.
+#[derive(Clone, Copy)]
+pub enum Patterns {
+    Nothing,
+    One(Pattern),
+    Two(Pattern, Pattern),
+    Three(Pattern, Pattern, Pattern),
+}
+
 /// One line of the table.
 #[derive(Clone, Copy)]
 pub struct Line {
-    /// The name without its ending, in capital letters.
-    pub stem: &'static str,
+    pub stem: Stem,
     pub ending: Ending,
     pub sizes: Sizes,
-    /// In the order in which they are written. Their words stand in the same order.
-    pub operands: &'static [Pattern],
+    pub operands: Patterns,
     /// How many words stand between the first word and those of the operands.
     pub words: u8,
-    pub row: Row,
+    /// The first word, with zeros in its fields.
+    pub first: u16,
+    /// The bits of the first word that belong to no field.
+    pub fixed: u16,
+    /// The bits of the word behind the first that belong to no field.
+    pub second: u16,
+}
+
+impl Stem {
+    pub fn letters(&self) -> &[u8]
+        ensures { result.now ≡ stem_of self.now }
+    {
+        &self.letters[..self.length.min(8)]
+    }
+}
+
+impl Patterns {
+    /// The first, and the rest.
+    pub fn split_first(self) -> Option<(Pattern, Patterns)>
+        ensures some { IfSome result (λ s. patterns_of self ≡ s.0 ∷ patterns_of s.1) }
+        ensures few { IfSome result (λ s. length (patterns_of s.1) ≤ 2) }
+        ensures none { result ≡ None → patterns_of self ≡ [] }
+    {
+        match self {
+            Patterns::Nothing => None,
+            Patterns::One(first) => Some((first, Patterns::Nothing)),
+            Patterns::Two(first, second) => Some((first, Patterns::One(second))),
+            Patterns::Three(first, second, third) => Some((first, Patterns::Two(second, third))),
+        }
+    }
 }

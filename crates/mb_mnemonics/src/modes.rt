@@ -1,18 +1,22 @@
-//! Addressing modes as they are written, and the operands that they mean.
+//! Addressing modes as they are written, and their words.
 
-ghost use Rattle.std.specs.Prelude.{◌≡◌, ◌<◌, ◌≤◌};
+ghost use Rattle.std.specs.Prelude.{◌≡◌, ◌<◌, ◌≤◌, ◌+◌, ◌++◌, ◌∷◌, [], IfSome, length, option_map};
 ghost use Rattle.mb_mnemonics.specs.Modes.{base_mode, mode_of, base_lower, is_word, lower_of, in_class};
 ghost use Rattle.mb_mnemonics.specs.Modes.{displacement_words, immediate_words, outer_of, mode_words};
 ghost use Rattle.mb_mnemonics.specs.Modes.{scale_bits, index_bits, brief, displacement_bits, is_dropped};
 ghost use Rattle.mb_mnemonics.specs.Modes.{indirection_bits, full_word, plain, from_pc, base_displacement, full};
-ghost use Rattle.mb_mnemonics.specs.Modes.{with_base, ea_of};
+ghost use Rattle.mb_mnemonics.specs.Modes.{extension_words};
+ghost use Rattle.mb_mnemonics.specs.Ranges.{values, immediate_range};
+ghost use Rattle.mb_instr.specs.Operands.{immediate, long_words};
+ghost use Rattle.arrayvec.specs.ArrayVec.{array_vec_len};
 
 use crate::range::{Range, displacement, number};
-use mb_instr::{Ea, Ext, OperandClass, Size};
+use arrayvec::ArrayVec;
+use mb_instr::{OperandClass, Size};
 use mb_syntax::{Base, Displacement, FullForm, Index, Indirection, Mode, Scale, Width};
 
 /// The mode that the first word has.
-fn mode_of(mode: &Mode<i64>) -> u8
+pub(crate) fn mode_of(mode: &Mode<i64>) -> u8
     ensures { result ≡ mode_of mode.now }
 {
     match mode {
@@ -170,10 +174,10 @@ fn index_bits(index: &Index) -> u16
 }
 
 /// `rnnn lkk0 dddddddd`.
-fn brief(index: &Index, displacement: u32) -> Ext
+fn brief(index: &Index, displacement: u32) -> u16
     ensures { result ≡ brief index.now displacement }
 {
-    Ext::Brief(index_bits(index) + (displacement % 256) as u16)
+    index_bits(index) + (displacement % 256) as u16
 }
 
 /// The field that says how long a displacement is: 1 for none, 2 for a word, 3 for a long.
@@ -213,37 +217,74 @@ fn full_word(form: &FullForm<i64>) -> u16
     index_bits(&form.index) + 0x100 + base + index + length + u16::from(indirection_bits(form))
 }
 
-/// A displacement of a full form, 0 where there is none.
-fn plain(displacement: &Option<Displacement<i64>>) -> Option<u32>
-    ensures { result ≡ plain displacement.now }
+/// The words of an operand, which are five at most.
+pub(crate) type Own = ArrayVec<u16, 5>;
+
+/// One word.
+fn one(word: u32) -> Own
+    requires { word < 65536 }
+    ensures words { result.items ≡ word ∷ [] }
+    ensures len { array_vec_len result ≡ 1 }
 {
-    match displacement {
-        None => Some(0),
-        Some(displacement) => match displacement.width {
-            Width::Word => number(Range::Displacement16, displacement.value),
-            Width::Long => number(Range::Long, displacement.value),
-        },
+    let mut own = Own::new();
+    own.push(word as u16);
+    own
+}
+
+/// A long, the high word first.
+pub(crate) fn long(value: u32) -> Own
+    ensures words { result.items ≡ long_words value }
+    ensures len { array_vec_len result ≡ 2 }
+{
+    let mut own = Own::new();
+    own.push((value >> 16) as u16);
+    own.push((value & 0xffff) as u16);
+    own
+}
+
+/// An immediate of the size; a byte has a whole word.
+pub(crate) fn immediate(size: Size, value: u32) -> Own
+    requires { value < values (immediate_range size) }
+    ensures words { result.items ≡ immediate size value }
+    ensures few { array_vec_len result ≤ 2 }
+{
+    match size {
+        Size::Byte | Size::Word => one(value),
+        Size::Long => long(value),
     }
+}
+
+/// A displacement of a full form, where there is one.
+fn plain(displacement: &Option<Displacement<i64>>) -> Option<Own>
+    ensures words { option_map (λ own. own.items) result ≡ plain displacement.now }
+    ensures few { IfSome result (λ own. array_vec_len own ≤ 2) }
+{
+    Some(match displacement {
+        None => Own::new(),
+        Some(displacement) => match displacement.width {
+            Width::Word => one(number(Range::Displacement16, displacement.value)?),
+            Width::Long => long(number(Range::Long, displacement.value)?),
+        },
+    })
 }
 
 /// The same, to a target.
-fn from_pc(place: u32, target: &Option<Displacement<i64>>) -> Option<u32>
-    ensures { result ≡ from_pc place target.now }
+fn from_pc(place: u32, target: &Option<Displacement<i64>>) -> Option<Own>
+    ensures words { option_map (λ own. own.items) result ≡ from_pc place target.now }
+    ensures few { IfSome result (λ own. array_vec_len own ≤ 2) }
 {
-    match target {
-        None => Some(0),
-        Some(target) => {
-            let size = match target.width {
-                Width::Word => Size::Word,
-                Width::Long => Size::Long,
-            };
-            displacement(size, place, target.value)
-        }
-    }
+    Some(match target {
+        None => Own::new(),
+        Some(target) => match target.width {
+            Width::Word => one(displacement(Size::Word, place, target.value)?),
+            Width::Long => long(displacement(Size::Long, place, target.value)?),
+        },
+    })
 }
 
-fn base_displacement(place: u32, form: &FullForm<i64>) -> Option<u32>
-    ensures { result ≡ base_displacement place form.now }
+fn base_displacement(place: u32, form: &FullForm<i64>) -> Option<Own>
+    ensures words { option_map (λ own. own.items) result ≡ base_displacement place form.now }
+    ensures few { IfSome result (λ own. array_vec_len own ≤ 2) }
 {
     match form.base {
         Base::Address(_) | Base::NoAddress(_) | Base::NoPc => plain(&form.displacement),
@@ -251,78 +292,64 @@ fn base_displacement(place: u32, form: &FullForm<i64>) -> Option<u32>
     }
 }
 
-fn outer_displacement(form: &FullForm<i64>) -> Option<u32>
-    ensures { result ≡ plain (outer_of form.now) }
+fn outer_displacement(form: &FullForm<i64>) -> Option<Own>
+    ensures words { option_map (λ own. own.items) result ≡ plain (outer_of form.now) }
+    ensures few { IfSome result (λ own. array_vec_len own ≤ 2) }
 {
     match form.indirection {
-        Indirection::Direct => Some(0),
+        Indirection::Direct => Some(Own::new()),
         Indirection::PreIndexed | Indirection::PostIndexed => plain(&form.outer),
     }
 }
 
-/// The extension words of a full form of which the first stands at the place.
-fn full(place: u32, form: &FullForm<i64>) -> Option<Ext>
-    ensures { result ≡ full place form.now }
+/// Appends words.
+pub(crate) fn push_words<const MOST: usize>(words: &mut ArrayVec<u16, MOST>, more: &[u16])
+    requires { array_vec_len words.old + length more.now ≤ MOST }
+    ensures pushed { words.new.items ≡ words.old.items ++ more.now }
+    ensures len { array_vec_len words.new ≡ array_vec_len words.old + length more.now }
 {
-    let bd = base_displacement(place, form)?;
-    let od = outer_displacement(form)?;
-    Some(Ext::Full {
-        word: full_word(form),
-        bd,
-        od,
-    })
-}
-
-fn with_base(base: Base, ext: Ext) -> Ea
-    ensures { result ≡ with_base base ext }
-{
-    match base {
-        Base::Address(n) | Base::NoAddress(n) => Ea::Index(n, ext),
-        Base::Pc | Base::NoPc => Ea::PcIndex(ext),
+    for word in more {
+        words.push(*word);
     }
 }
 
-/// The operand of the size that a mode means whose first extension word stands at the place; none where a number is
-/// out of its range.
-pub(crate) fn ea_of(size: Size, place: u32, mode: &Mode<i64>) -> Option<Ea>
-    ensures { result ≡ ea_of size place mode.now }
+/// The words of a full form of which the first stands at the place.
+fn full(place: u32, form: &FullForm<i64>) -> Option<Own>
+    ensures { option_map (λ own. own.items) result ≡ full place form.now }
 {
-    match mode {
-        Mode::Data(n) => Some(Ea::Dn(*n)),
-        Mode::Address(n) => Some(Ea::An(*n)),
-        Mode::Indirect(n) => Some(Ea::Ind(*n)),
-        Mode::PostIncrement(n) => Some(Ea::Post(*n)),
-        Mode::PreDecrement(n) => Some(Ea::Pre(*n)),
-        Mode::Displaced {
-            register,
-            displacement,
-        } => {
-            Some(Ea::Disp(
-                *register,
-                number(Range::Displacement16, *displacement)? as u16,
-            ))
-        }
+    let base = base_displacement(place, form)?;
+    let outer = outer_displacement(form)?;
+    let mut own = Own::new();
+    own.push(full_word(form));
+    push_words(&mut own, base.as_slice());
+    push_words(&mut own, outer.as_slice());
+    Some(own)
+}
+
+/// The words of the mode behind the first word, for an operand of the size, where the first of them stands at the
+/// place; none where a number is out of its range.
+pub(crate) fn extension_words(size: Size, place: u32, mode: &Mode<i64>) -> Option<Own>
+    ensures { option_map (λ own. own.items) result ≡ extension_words size place mode.now }
+{
+    Some(match mode {
+        Mode::Data(_)
+        | Mode::Address(_)
+        | Mode::Indirect(_)
+        | Mode::PostIncrement(_)
+        | Mode::PreDecrement(_) => Own::new(),
+        Mode::Displaced { displacement, .. } => one(number(Range::Displacement16, *displacement)?),
         Mode::Indexed {
-            register,
             displacement,
             index,
-        } => {
-            Some(Ea::Index(
-                *register,
-                brief(index, number(Range::Displacement8, *displacement)?),
-            ))
-        }
-        Mode::Absolute { address, width } if is_word(*width) => {
-            Some(Ea::AbsW(number(Range::Word, *address)? as u16))
-        }
-        Mode::Absolute { address, .. } => Some(Ea::AbsL(number(Range::Long, *address)?)),
-        Mode::PcDisplaced { target } => {
-            Some(Ea::PcDisp(displacement(Size::Word, place, *target)? as u16))
-        }
+            ..
+        } => one(u32::from(brief(index, number(Range::Displacement8, *displacement)?))),
+        Mode::Absolute { address, width } if is_word(*width) => one(number(Range::Word, *address)?),
+        Mode::Absolute { address, .. } => long(number(Range::Long, *address)?),
+        Mode::PcDisplaced { target } => one(displacement(Size::Word, place, *target)?),
         Mode::PcIndexed { target, index } => {
-            Some(Ea::PcIndex(brief(index, displacement(Size::Byte, place, *target)?)))
+            one(u32::from(brief(index, displacement(Size::Byte, place, *target)?)))
         }
-        Mode::Full(form) => Some(with_base(form.base, full(place, form)?)),
-        Mode::Immediate(value) => Some(Ea::Imm(number(Range::of_immediate(size), *value)?)),
-    }
+        Mode::Full(form) => full(place, form)?,
+        Mode::Immediate(value) => immediate(size, number(Range::of_immediate(size), *value)?),
+    })
 }

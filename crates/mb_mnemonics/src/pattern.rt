@@ -6,9 +6,9 @@ use mb_instr::{OperandClass, Size};
 /// Where a register's number goes.
 #[derive(Clone, Copy)]
 pub enum Place {
-    /// The upper register of the first word, and where there is one alone.
+    /// Bits 11 to 9 of the first word.
     X,
-    /// The lower register of the first word.
+    /// Bits 2 to 0 of the first word.
     Y,
     /// Bits 15 to 12 of the word behind the first, where an address register has bit 15 set.
     Upper,
@@ -25,8 +25,8 @@ pub enum Place {
 pub enum Pattern {
     /// An addressing mode of the class.
     Mode(OperandClass),
-    /// The same, for MOVE's source.
-    Source(OperandClass),
+    /// The same, for MOVE's destination.
+    Destination(OperandClass),
     /// An addressing mode of the class other than `Dn`.
     Memory(OperandClass),
     /// `Dn` as an addressing mode.
@@ -51,10 +51,14 @@ pub enum Pattern {
     Quick(Range),
     /// `#e`, the word behind the first.
     WordNumber,
+    /// `#e`, a displacement of the size, which is listed with its sign.
+    Distance(Size),
     /// The address that a branch goes to, with a displacement of the size.
     Target(Size),
     /// A register list, or one register.
     RegisterList,
+    /// The same, spelled in the other order, with A7 first, as before `-(An)`.
+    ReversedList,
     /// `(d16,An)`, as MOVEP has it.
     Displaced,
     /// `e` or `e.L`, as MOVE16 has it.

@@ -1,20 +1,26 @@
 //! The operands that a line takes, and what they say.
 
-ghost use Rattle.std.specs.Prelude.{◌≡◌, ◌<◌, ◌≤◌, IfSome};
+ghost use Rattle.std.specs.Prelude.{◌≡◌, ◌+◌, ◌*◌, ◌<◌, ◌≤◌, IfSome, length, option_map};
+ghost use Rattle.arrayvec.specs.ArrayVec.{array_vec_len};
+ghost use Rattle.mb_mnemonics.specs.Code.{part_said, said_of};
+ghost use Rattle.mb_mnemonics.specs.Lines.{patterns_of};
 ghost use Rattle.mb_mnemonics.specs.Ranges.{values};
 ghost use Rattle.mb_mnemonics.specs.Operands.{takes_mode, takes_field, takes_control, takes_operand};
-ghost use Rattle.mb_mnemonics.specs.Operands.{takes_operands};
-ghost use Rattle.mb_mnemonics.specs.Operands.{operand_words, nothing, name_at, with_register};
-ghost use Rattle.mb_mnemonics.specs.Operands.{with_both};
-ghost use Rattle.mb_mnemonics.specs.Operands.{list_of, field_part, field_bits, with_displacement};
-ghost use Rattle.mb_mnemonics.specs.Operands.{with_number, with_value};
-ghost use Rattle.mb_mnemonics.specs.Operands.{is_data, value_of, with_mode, with_pair, with_operand, with_operands};
+ghost use Rattle.mb_mnemonics.specs.Operands.{takes_operands, operand_words, is_data, value_of};
+ghost use Rattle.mb_mnemonics.specs.Operands.{in_first, in_second, in_both, in_own, together, place_bits, register_at};
+ghost use Rattle.mb_mnemonics.specs.Operands.{general, field_part, field_bits, quick_bits, reach_said, source_bits};
+ghost use Rattle.mb_mnemonics.specs.Operands.{destination_bits, ea_said, list_said, mode_said, pair_said};
+ghost use Rattle.mb_mnemonics.specs.Operands.{operand_said, operands_said};
 
-use crate::modes::{ea_of, immediate_words, in_class, is_word, lower_of, mode_words};
-use crate::parts::{Named, Parts};
+use crate::line::Patterns;
+use crate::modes::{
+    Own, extension_words, immediate, immediate_words, in_class, is_word, long, lower_of, mode_of,
+    mode_words, push_words,
+};
 use crate::pattern::{Pattern, Place};
 use crate::range::{Range, branch, number};
-use mb_instr::{Caches, Condition, ControlRegister, Ea, Size};
+use arrayvec::ArrayVec;
+use mb_instr::{ControlRegister, Size};
 use mb_syntax::{BitField, FieldNumber, Mode, Operand};
 
 /// `Dn`.
@@ -29,17 +35,17 @@ fn takes_mode(pattern: Pattern, size: Size, mode: &Mode<i64>) -> bool
     ensures { result ≡ takes_mode pattern size mode.now }
 {
     match pattern {
-        Pattern::Mode(class) | Pattern::Source(class) => in_class(class, size, mode),
+        Pattern::Mode(class) | Pattern::Destination(class) => in_class(class, size, mode),
         Pattern::Memory(class) => in_class(class, size, mode) && !is_data(mode),
         Pattern::DataMode | Pattern::Data(_) => is_data(mode),
         Pattern::Address(_) => matches!(mode, Mode::Address(_)),
-        Pattern::Register(_) | Pattern::RegisterList => {
+        Pattern::Register(_) | Pattern::RegisterList | Pattern::ReversedList => {
             matches!(mode, Mode::Data(_) | Mode::Address(_))
         }
         Pattern::Indirect(_) => matches!(mode, Mode::Indirect(_)),
         Pattern::PostIncrement(_) => matches!(mode, Mode::PostIncrement(_)),
         Pattern::PreDecrement(_) => matches!(mode, Mode::PreDecrement(_)),
-        Pattern::Immediate | Pattern::Quick(_) | Pattern::WordNumber => {
+        Pattern::Immediate | Pattern::Quick(_) | Pattern::WordNumber | Pattern::Distance(_) => {
             matches!(mode, Mode::Immediate(_))
         }
         Pattern::Target(_) => matches!(mode, Mode::Absolute { width: None, .. }),
@@ -89,7 +95,7 @@ pub(crate) fn takes_operand(pattern: Pattern, size: Size, operand: &Operand<i64>
         Operand::Sr => matches!(pattern, Pattern::Sr),
         Operand::Ccr => matches!(pattern, Pattern::Ccr),
         Operand::Control(register) => takes_control(pattern, *register),
-        Operand::List(_) => matches!(pattern, Pattern::RegisterList),
+        Operand::List(_) => matches!(pattern, Pattern::RegisterList | Pattern::ReversedList),
         Operand::Pair(_, _) => matches!(pattern, Pattern::Pair(_, _) | Pattern::Pairs(_)),
         Operand::IndirectPair(_, _) => matches!(pattern, Pattern::IndirectPairs),
         Operand::Caches(_) => matches!(pattern, Pattern::Caches),
@@ -98,118 +104,157 @@ pub(crate) fn takes_operand(pattern: Pattern, size: Size, operand: &Operand<i64>
 }
 
 /// Whether the operands are of the line's forms, as many as it has.
-pub(crate) fn takes_operands(patterns: &[Pattern], size: Size, operands: &[Operand<i64>]) -> bool
-    ensures { result ≡ takes_operands patterns.now size operands.now }
+pub(crate) fn takes_operands(patterns: Patterns, size: Size, operands: &[Operand<i64>]) -> bool
+    ensures { result ≡ takes_operands (patterns_of patterns) size operands.now }
 {
-    match patterns {
-        [] => operands.is_empty(),
-        [pattern, patterns @ ..] => match operands {
-            [] => false,
-            [operand, operands @ ..] => {
-                takes_operand(*pattern, size, operand) && takes_operands(patterns, size, operands)
-            }
-        },
+    match (patterns.split_first(), operands) {
+        (None, operands) => operands.is_empty(),
+        (Some(_), []) => false,
+        (Some((pattern, patterns)), [operand, operands @ ..]) => {
+            takes_operand(pattern, size, operand) && takes_operands(patterns, size, operands)
+        }
     }
 }
 
 /// How many words an operand of the pattern's form has of its own.
-pub(crate) fn operand_words(pattern: Pattern, size: Size, operand: &Operand<i64>) -> u8
+pub fn operand_words(pattern: Pattern, size: Size, operand: &Operand<i64>) -> u8
     ensures value { result ≡ operand_words pattern size operand.now }
     ensures few { result ≤ 5 }
 {
     match (pattern, operand) {
-        (Pattern::Mode(_) | Pattern::Source(_) | Pattern::Memory(_), Operand::Mode(mode)) => {
+        (Pattern::Mode(_) | Pattern::Destination(_) | Pattern::Memory(_), Operand::Mode(mode)) => {
             mode_words(size, mode)
         }
         (Pattern::FieldMode(_), Operand::Field { mode, .. }) => mode_words(size, mode),
         (Pattern::Immediate, _) => immediate_words(size),
-        (Pattern::Target(Size::Long) | Pattern::Absolute, _) => 2,
+        (Pattern::Distance(Size::Long) | Pattern::Target(Size::Long) | Pattern::Absolute, _) => 2,
         _ => 0,
     }
 }
 
-/// What a statement says before its operands are read.
-pub(crate) fn nothing(size: Size, condition: Condition) -> Parts
-    ensures { result ≡ nothing size condition }
-{
-    let names = Named {
-        upper: 0,
-        middle: 0,
-        lower: 0,
-    };
-    Parts {
-        size,
-        condition,
-        x: 0,
-        y: 0,
-        first: names,
-        second: names,
-        caches: Caches::Neither,
-        ea: Ea::Dn(0),
-        source: Ea::Dn(0),
-        quick: 0,
-        word: 0,
-        long: 0,
+/// What operands say: bits of the first word and of the two behind it, and words of their own.
+#[derive(Drop)]
+pub(crate) struct Said {
+    pub(crate) first: u16,
+    pub(crate) second: u16,
+    pub(crate) third: u16,
+    pub(crate) own: ArrayVec<u16, 15>,
+}
+
+/// What an operand says.
+#[derive(Drop)]
+struct Part {
+    first: u16,
+    second: u16,
+    third: u16,
+    own: Own,
+}
+
+impl Part {
+    fn in_first(bits: u16) -> Part
+        ensures { part_said result ≡ in_first bits }
+    {
+        Part {
+            first: bits,
+            second: 0,
+            third: 0,
+            own: Own::new(),
+        }
+    }
+
+    fn in_second(bits: u16) -> Part
+        ensures { part_said result ≡ in_second bits }
+    {
+        Part {
+            first: 0,
+            second: bits,
+            third: 0,
+            own: Own::new(),
+        }
+    }
+
+    fn in_both(bits: u16, more: u16) -> Part
+        ensures { part_said result ≡ in_both bits more }
+    {
+        Part {
+            first: 0,
+            second: bits,
+            third: more,
+            own: Own::new(),
+        }
+    }
+
+    fn in_own(own: Own) -> Part
+        ensures { part_said result ≡ in_own own.items }
+    {
+        Part {
+            first: 0,
+            second: 0,
+            third: 0,
+            own,
+        }
+    }
+}
+
+impl Said {
+    /// Nothing.
+    pub(crate) fn new() -> Said
+        ensures said { said_of result ≡ in_first 0 }
+        ensures none { array_vec_len result.own ≡ 0 }
+    {
+        Said {
+            first: 0,
+            second: 0,
+            third: 0,
+            own: ArrayVec::new(),
+        }
+    }
+
+    /// With what an operand says.
+    fn add(&mut self, part: &Part)
+        requires { array_vec_len self.old.own + 5 ≤ 15 }
+        ensures said { said_of self.new ≡ together (said_of self.old) (part_said part.now) }
+        ensures few { array_vec_len self.new.own ≤ array_vec_len self.old.own + 5 }
+    {
+        self.first = self.first.wrapping_add(part.first);
+        self.second = self.second.wrapping_add(part.second);
+        self.third = self.third.wrapping_add(part.third);
+        push_words(&mut self.own, part.own.as_slice());
     }
 }
 
 /// A register's number at its place in a word behind the first.
-fn name_at(place: Place, number: u8, names: Named) -> Named
-    ensures { result ≡ name_at place number names }
+fn place_bits(place: Place, n: u8) -> u16
+    ensures { result ≡ place_bits place n }
+{
+    let low = u16::from(n % 8);
+    match place {
+        Place::Upper => u16::from(n % 16) * 0x1000,
+        Place::Middle => low * 64,
+        Place::Both => low * 0x1000 + low,
+        Place::X | Place::Y | Place::Lower => low,
+    }
+}
+
+/// A register's number at its place.
+fn register_at(place: Place, n: u8) -> Part
+    ensures { part_said result ≡ register_at place n }
 {
     match place {
-        Place::Upper => Named {
-            upper: number,
-            ..names
-        },
-        Place::Middle => Named {
-            middle: number,
-            ..names
-        },
-        Place::Lower => Named {
-            lower: number,
-            ..names
-        },
-        Place::Both => Named {
-            upper: number,
-            lower: number,
-            ..names
-        },
-        Place::X | Place::Y => names,
+        Place::X => Part::in_first(u16::from(n % 8) * 512),
+        Place::Y => Part::in_first(u16::from(n % 8)),
+        Place::Upper | Place::Middle | Place::Lower | Place::Both => {
+            Part::in_second(place_bits(place, n))
+        }
     }
 }
 
-/// A register's number at its place; in a word behind the first an address register has 8 added.
-fn with_register(place: Place, is_address: bool, n: u8, parts: Parts) -> Parts
-    ensures { result ≡ with_register place is_address n parts }
+/// The number of the register that a mode names, where an address register has 8 added.
+fn general(mode: &Mode<i64>) -> u8
+    ensures value { result ≡ general mode.now }
+    ensures small { result < 16 }
 {
-    let number = n % 8 + if is_address { 8 } else { 0 };
-    match place {
-        Place::X => Parts { x: n, ..parts },
-        Place::Y => Parts { y: n, ..parts },
-        Place::Upper | Place::Middle | Place::Lower | Place::Both => Parts {
-            first: name_at(place, number, parts.first),
-            ..parts
-        },
-    }
-}
-
-/// Registers of the same place in the two words behind the first.
-fn with_both(place: Place, n: u8, m: u8, parts: Parts) -> Parts
-    ensures { result ≡ with_both place n m parts }
-{
-    Parts {
-        first: name_at(place, n, parts.first),
-        second: name_at(place, m, parts.second),
-        ..parts
-    }
-}
-
-/// A register as a list of one.
-fn list_of(is_address: bool, n: u8) -> u16
-    ensures { result ≡ list_of is_address n }
-{
-    1 << (n % 8 + if is_address { 8 } else { 0 })
+    lower_of(mode) % 8 + if is_data(mode) { 0 } else { 8 }
 }
 
 /// A bit field's offset or width, of the range: a register with bit 5, which says so, or a number.
@@ -233,43 +278,24 @@ fn field_bits(field: &BitField<i64>) -> Option<u16>
     Some((offset * 64 + width) as u16)
 }
 
-/// The displacement of a branch, where a displacement of its length stands.
-fn with_displacement(size: Size, displacement: u32, parts: Parts) -> Parts
-    ensures { result ≡ with_displacement size displacement parts }
+/// A number in the first word: 8 is spelled 0.
+fn quick_bits(range: Range, value: u32) -> u16
+    ensures { result ≡ quick_bits range value }
 {
-    match size {
-        Size::Byte => Parts {
-            quick: (displacement % 256) as u8,
-            ..parts
-        },
-        Size::Word => Parts {
-            word: (displacement % 0x1_0000) as u16,
-            ..parts
-        },
-        Size::Long => Parts {
-            long: displacement,
-            ..parts
-        },
+    match range {
+        Range::Count => (value % 8) as u16 * 512,
+        _ => (value % 256) as u16,
     }
 }
 
-/// What a number says by its pattern.
-fn with_number(pattern: Pattern, size: Size, value: i64, parts: Parts) -> Option<Parts>
-    ensures { result ≡ with_number pattern size value parts }
+/// A displacement of the size, where the length of its displacement has it.
+fn reach_said(size: Size, displacement: u32) -> Part
+    ensures { part_said result ≡ reach_said size displacement }
 {
-    match pattern {
-        Pattern::Immediate => {
-            let long = number(Range::of_immediate(size), value)?;
-            Some(Parts { long, ..parts })
-        }
-        Pattern::Quick(range) => {
-            let quick = (number(range, value)? % 256) as u8;
-            Some(Parts { quick, ..parts })
-        }
-        _ => {
-            let word = (number(Range::Word, value)? % 0x1_0000) as u16;
-            Some(Parts { word, ..parts })
-        }
+    match size {
+        Size::Byte => Part::in_first((displacement % 256) as u16),
+        Size::Word => Part::in_second((displacement % 0x1_0000) as u16),
+        Size::Long => Part::in_own(long(displacement)),
     }
 }
 
@@ -296,153 +322,137 @@ fn value_of(mode: &Mode<i64>) -> i64
     }
 }
 
-/// What a mode with a number says by its pattern, in a statement at the address.
-fn with_value(
-    pattern: Pattern,
-    size: Size,
-    at: u32,
-    mode: &Mode<i64>,
-    parts: Parts,
-) -> Option<Parts>
-    ensures { result ≡ with_value pattern size at mode.now parts }
+/// Bits 5 to 0 of the first word.
+fn source_bits(mode: &Mode<i64>) -> u16
+    ensures { result ≡ source_bits mode.now }
 {
-    match pattern {
-        Pattern::Immediate | Pattern::Quick(_) | Pattern::WordNumber => {
-            with_number(pattern, size, value_of(mode), parts)
-        }
-        Pattern::Target(reach) => {
-            let displacement = branch(reach, at, value_of(mode))?;
-            Some(with_displacement(reach, displacement, parts))
-        }
-        Pattern::Displaced => {
-            let word = (number(Range::Displacement16, value_of(mode))? % 0x1_0000) as u16;
-            Some(Parts {
-                y: lower_of(mode),
-                word,
-                ..parts
-            })
-        }
-        Pattern::Absolute => {
-            let long = number(Range::Long, value_of(mode))?;
-            Some(Parts { long, ..parts })
-        }
-        _ => Some(parts),
-    }
+    u16::from(mode_of(mode)) * 8 + u16::from(lower_of(mode) % 8)
+}
+
+/// Bits 11 to 6 of it, for MOVE's destination.
+fn destination_bits(mode: &Mode<i64>) -> u16
+    ensures { result ≡ destination_bits mode.now }
+{
+    u16::from(lower_of(mode) % 8) * 512 + u16::from(mode_of(mode)) * 64
+}
+
+/// What an operand of the size says with these bits, whose words stand here.
+fn ea_said(size: Size, here: u32, bits: u16, mode: &Mode<i64>) -> Option<Part>
+    ensures { option_map part_said result ≡ ea_said size here bits mode.now }
+{
+    let own = extension_words(size, here, mode)?;
+    Some(Part {
+        first: bits,
+        second: 0,
+        third: 0,
+        own,
+    })
 }
 
 /// What a mode says by its pattern, in a statement at the address, where the mode's own words stand here.
-fn with_mode(
-    pattern: Pattern,
-    size: Size,
-    at: u32,
-    here: u32,
-    mode: &Mode<i64>,
-    parts: Parts,
-) -> Option<Parts>
-    ensures { result ≡ with_mode pattern size at here mode.now parts }
+#[rattlefmt::skip]
+fn mode_said(pattern: Pattern, size: Size, at: u32, here: u32, mode: &Mode<i64>) -> Option<Part>
+    ensures { option_map part_said result ≡ mode_said pattern size at here mode.now }
+{
+    let value = value_of(mode);
+    Some(match pattern {
+        Pattern::Mode(_) | Pattern::Memory(_) | Pattern::DataMode => return ea_said(size, here, source_bits(mode), mode),
+        Pattern::Destination(_) => return ea_said(size, here, destination_bits(mode), mode),
+        Pattern::Data(place) | Pattern::Address(place) | Pattern::Register(place) | Pattern::Indirect(place)
+        | Pattern::PostIncrement(place) | Pattern::PreDecrement(place) => register_at(place, general(mode)),
+        Pattern::Immediate => Part::in_own(immediate(size, number(Range::of_immediate(size), value)?)),
+        Pattern::Quick(range) => Part::in_first(quick_bits(range, number(range, value)?)),
+        Pattern::WordNumber => Part::in_second(number(Range::Word, value)? as u16),
+        Pattern::Distance(reach) => reach_said(reach, number(Range::of_immediate(reach), value)?),
+        Pattern::Target(reach) => reach_said(reach, branch(reach, at, value)?),
+        Pattern::RegisterList | Pattern::ReversedList => list_said(pattern, 1 << general(mode)),
+        Pattern::Displaced => Part {
+            first: u16::from(lower_of(mode) % 8),
+            second: number(Range::Displacement16, value)? as u16,
+            third: 0,
+            own: Own::new(),
+        },
+        Pattern::Absolute => Part::in_own(long(number(Range::Long, value)?)),
+        _ => Part::in_first(0),
+    })
+}
+
+/// A list of registers.
+fn list_said(pattern: Pattern, list: u16) -> Part
+    ensures { part_said result ≡ list_said pattern list }
 {
     match pattern {
-        Pattern::Mode(_) | Pattern::Memory(_) | Pattern::DataMode => {
-            let ea = ea_of(size, here, mode)?;
-            Some(Parts { ea, ..parts })
-        }
-        Pattern::Source(_) => {
-            let source = ea_of(size, here, mode)?;
-            Some(Parts { source, ..parts })
-        }
-        Pattern::Data(place)
-        | Pattern::Address(place)
-        | Pattern::Register(place)
-        | Pattern::Indirect(place)
-        | Pattern::PostIncrement(place)
-        | Pattern::PreDecrement(place) => {
-            Some(with_register(place, !is_data(mode), lower_of(mode), parts))
-        }
-        Pattern::RegisterList => Some(Parts {
-            word: list_of(!is_data(mode), lower_of(mode)),
-            ..parts
-        }),
-        _ => with_value(pattern, size, at, mode, parts),
+        Pattern::ReversedList => Part::in_second(list.reverse_bits()),
+        _ => Part::in_second(list),
     }
 }
 
-fn with_pair(pattern: Pattern, n: u8, m: u8, parts: Parts) -> Parts
-    ensures { result ≡ with_pair pattern n m parts }
+fn pair_said(pattern: Pattern, n: u8, m: u8) -> Part
+    ensures { part_said result ≡ pair_said pattern n m }
 {
     match pattern {
-        Pattern::Pairs(place) => with_both(place, n, m, parts),
+        Pattern::Pairs(place) => Part::in_both(place_bits(place, n), place_bits(place, m)),
         Pattern::Pair(high, low) => {
-            let parts = with_register(high, false, n, parts);
-            with_register(low, false, m, parts)
+            Part::in_second(place_bits(high, n).wrapping_add(place_bits(low, m)))
         }
-        _ => parts,
+        _ => Part::in_first(0),
     }
 }
 
-/// What an operand of the pattern's form says, beside what was said before, in a statement at the address, where the
-/// operand's own words stand here; none where a number is out of its range.
-pub(crate) fn with_operand(
+/// What an operand of the pattern's form says in a statement at the address, where its own words stand here; none
+/// where a number is out of its range.
+fn operand_said(
     pattern: Pattern,
     size: Size,
     at: u32,
     here: u32,
     operand: &Operand<i64>,
-    parts: Parts,
-) -> Option<Parts>
-    ensures { result ≡ with_operand pattern size at here operand.now parts }
+) -> Option<Part>
+    ensures { option_map part_said result ≡ operand_said pattern size at here operand.now }
 {
-    match operand {
-        Operand::Mode(mode) => with_mode(pattern, size, at, here, mode, parts),
+    Some(match operand {
+        Operand::Mode(mode) => return mode_said(pattern, size, at, here, mode),
         Operand::Field { mode, field } => {
-            let word = field_bits(field)?;
-            let ea = ea_of(size, here, mode)?;
-            Some(Parts { ea, word, ..parts })
+            let second = field_bits(field)?;
+            let own = extension_words(size, here, mode)?;
+            Part {
+                first: source_bits(mode),
+                second,
+                third: 0,
+                own,
+            }
         }
-        Operand::Control(register) => Some(Parts {
-            word: register.code(),
-            ..parts
-        }),
-        Operand::List(word) => Some(Parts {
-            word: *word,
-            ..parts
-        }),
-        Operand::Pair(n, m) => Some(with_pair(pattern, *n, *m, parts)),
-        Operand::IndirectPair(n, m) => Some(with_both(Place::Upper, *n, *m, parts)),
-        Operand::Caches(caches) => Some(Parts {
-            caches: *caches,
-            ..parts
-        }),
-        Operand::Sr | Operand::Ccr | Operand::Text(_) => Some(parts),
-    }
+        Operand::Control(register) => Part::in_second(register.code()),
+        Operand::List(list) => list_said(pattern, *list),
+        Operand::Pair(n, m) => pair_said(pattern, *n, *m),
+        Operand::IndirectPair(n, m) => {
+            Part::in_both(place_bits(Place::Upper, *n), place_bits(Place::Upper, *m))
+        }
+        Operand::Caches(caches) => Part::in_first(u16::from(caches.bits()) * 64),
+        Operand::Sr | Operand::Ccr | Operand::Text(_) => Part::in_first(0),
+    })
 }
 
-/// What the operands say, of which the first has its words here.
-pub(crate) fn with_operands(
-    patterns: &[Pattern],
+/// Adds what the operands say, of which the first has its words here; none where a number is out of its range.
+pub(crate) fn add_operands(
+    patterns: Patterns,
     size: Size,
     at: u32,
     here: u32,
     operands: &[Operand<i64>],
-    parts: Parts,
-) -> Option<Parts>
-    ensures { result ≡ with_operands patterns.now size at here operands.now parts }
+    said: &mut Said,
+) -> Option<()>
+    requires { array_vec_len said.old.own + 5 * length (patterns_of patterns) ≤ 15 }
+    ensures { option_map (λ _. said_of said.new) result
+        ≡ operands_said (patterns_of patterns) size at here operands.now (said_of said.old) }
 {
-    match patterns {
-        [] => Some(parts),
-        [pattern, patterns @ ..] => match operands {
-            [] => Some(parts),
-            [operand, operands @ ..] => {
-                let parts = with_operand(*pattern, size, at, here, operand, parts)?;
-                let words = u32::from(operand_words(*pattern, size, operand));
-                with_operands(
-                    patterns,
-                    size,
-                    at,
-                    here.wrapping_add(2 * words),
-                    operands,
-                    parts,
-                )
-            }
-        },
+    match (patterns.split_first(), operands) {
+        (Some((pattern, patterns)), [operand, operands @ ..]) => {
+            said.add(&operand_said(pattern, size, at, here, operand)?);
+            let words = u32::from(operand_words(pattern, size, operand));
+            let there = here.wrapping_add(2 * words);
+            add_operands(patterns, size, at, there, operands, said)
+        }
+        _ => Some(()),
     }
 }

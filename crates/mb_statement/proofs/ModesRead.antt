@@ -22,7 +22,8 @@ use Rattle.mb_syntax.specs.declared.mode.Mode.{Mode}
 use Rattle.mb_syntax.specs.declared.mode.Mode.TheVariants as mode
 use Rattle.mb_syntax.specs.Modes.{Sum, direct_at, close_at, close_square_at, direct_mode, displacement_of, full, group_at, index_at, index_behind_brackets}
 use Rattle.mb_syntax.specs.Modes.{index_part, mode_at, no_index, optional, outer_at, post_indexed, read_at, stepped, width_at}
-use Rattle.mb_statement.specs.Read.{read_displacement, read_form, read_mode}
+use Rattle.mb_mnemonics.specs.Values.{valued_displacement, valued_form, valued_mode}
+use Rattle.mb_statement.specs.Read.{sum_of}
 use Rattle.mb_statement.specs.Texts.{asks_full, is_left_out, is_no_index, is_one, is_word}
 use Rattle.mb_statement.specs.Written.{is_index, is_mode, is_register, says_full}
 use Rattle.mb_statement.proofs.Lexemes.{Lexeme, both, said}
@@ -122,7 +123,7 @@ no_index_by a d n w s h =
 no_index_is : (i : Index) → is_no_index i ≡ true → i ≡ no_index
 no_index_is i h = no_index_by i.is_address i.is_dropped i.register i.width i.scale h
 
-displaced_read : (d : Option (Displacement ℤ)) → option_map displacement_of (option_map sized_of d) ≡ option_map read_displacement d
+displaced_read : (d : Option (Displacement ℤ)) → option_map displacement_of (option_map sized_of d) ≡ option_map (valued_displacement sum_of) d
 displaced_read None = refl
 displaced_read (Some d) = refl
 
@@ -132,7 +133,7 @@ form d b i k o = record { displacement = d; base = b; index = i; indirection = k
 -- what a form without brackets says, by whether its index is left out
 direct_said : (d : Option (Displacement ℤ)) (b : Base) (i : Index) (left : Bool) → is_left_out (form d b i indirection.Direct None) ≡ left
     → (asks_full (form d b i indirection.Direct None) || i.is_dropped) ≡ true
-    → direct_mode (group d b (if left then None else Some i)) ≡ Some (mode.Full (read_form (form d b i indirection.Direct None)))
+    → direct_mode (group d b (if left then None else Some i)) ≡ Some (mode.Full (valued_form sum_of (form d b i indirection.Direct None)))
 direct_said None (base.NoAddress n) i true e h = rw (no_index_is i (both _ _ e).0) refl
 direct_said None base.NoPc i true e h = rw (no_index_is i (both _ _ e).0) refl
 direct_said None (base.Address n) i true e h = absurd (both_false (is_no_index i) e)
@@ -151,7 +152,7 @@ direct_of read = close_at read.1 >>= (λ rest. direct_mode read.0 >>= (λ direct
 direct_by : (d : Option (Displacement ℤ)) (b : Base) (i : Index) (left : Bool) (p : ℕ) (behind : List Word)
     → is_left_out (form d b i indirection.Direct None) ≡ left → (asks_full (form d b i indirection.Direct None) || i.is_dropped) ≡ true
     → mode_at (said (full_lexemes indirection.Direct d b (if left then None else Some i) None) p behind)
-    ≡ Some (mode.Full (read_form (form d b i indirection.Direct None)), behind)
+    ≡ Some (mode.Full (valued_form sum_of (form d b i indirection.Direct None)), behind)
 direct_by d b i left p behind e h =
     let x : Option Index = if left then None else Some i in
     let q = p + 1 in
@@ -209,7 +210,7 @@ outer_ends (Some d) p behind = refl
 pre_said : (d : Option (Displacement ℤ)) (b : Base) (i : Index) (left : Bool) (o : Option (Displacement ℤ))
     → is_left_out (form d b i indirection.PreIndexed o) ≡ left
     → full (post_indexed (group d b (if left then None else Some i)) None) indirection.PreIndexed (option_map sized_of o)
-    ≡ read_form (form d b i indirection.PreIndexed o)
+    ≡ valued_form sum_of (form d b i indirection.PreIndexed o)
 pre_said d b i true o e = rw (displaced_read d, displaced_read o, no_index_is i (both _ _ e).0) refl
 pre_said d b i false o e = rw (displaced_read d, displaced_read o) refl
 
@@ -227,7 +228,7 @@ pre_group d b x o q behind =
 pre_by : (d : Option (Displacement ℤ)) (b : Base) (i : Index) (left : Bool) (o : Option (Displacement ℤ)) (p : ℕ) (behind : List Word)
     → is_left_out (form d b i indirection.PreIndexed o) ≡ left
     → mode_at (said (full_lexemes indirection.PreIndexed d b (if left then None else Some i) o) p behind)
-    ≡ Some (mode.Full (read_form (form d b i indirection.PreIndexed o)), behind)
+    ≡ Some (mode.Full (valued_form sum_of (form d b i indirection.PreIndexed o)), behind)
 pre_by d b i true o p behind e =
     let r = after (p + 1 + 1) (group_lexemes d b None) + 1 in
     ap indirect_of (pre_group d b None o (p + 1 + 1) behind)
@@ -242,7 +243,7 @@ pre_by d b i false o p behind e =
 
 post_by : (d : Option (Displacement ℤ)) (b : Base) (i : Index) (o : Option (Displacement ℤ)) (p : ℕ) (behind : List Word)
     → mode_at (said (full_lexemes indirection.PostIndexed d b (Some i) o) p behind)
-    ≡ Some (mode.Full (read_form (form d b i indirection.PostIndexed o)), behind)
+    ≡ Some (mode.Full (valued_form sum_of (form d b i indirection.PostIndexed o)), behind)
 post_by d b i o p behind =
     let q = p + 1 + 1 in
     let t = after q (group_lexemes d b None) + 1 + 1 in
@@ -267,7 +268,7 @@ none_is (Some x) h = absurd cc
 
 full_by : (d : Option (Displacement ℤ)) (b : Base) (i : Index) (k : Indirection) (o : Option (Displacement ℤ)) (left : Bool) (p : ℕ) (behind : List Word)
     → is_left_out (form d b i k o) ≡ left → says_full (form d b i k o) ≡ true
-    → mode_at (said (full_lexemes k d b (if left then None else Some i) o) p behind) ≡ Some (mode.Full (read_form (form d b i k o)), behind)
+    → mode_at (said (full_lexemes k d b (if left then None else Some i) o) p behind) ≡ Some (mode.Full (valued_form sum_of (form d b i k o)), behind)
 full_by d b i indirection.Direct o left p behind e h =
     let parts = both (asks_full (form d b i indirection.Direct o) || i.is_dropped) (not (is_some o)) h in
     rw (none_is o parts.1) (direct_by d b i left p behind e parts.0)
@@ -277,7 +278,7 @@ full_by d b i indirection.PostIndexed o true p behind e h = absurd (let n : not 
 
 full_read : (f : FullForm ℤ) (p : ℕ) (behind : List Word) → says_full f ≡ true
     → mode_at (said (full_lexemes f.indirection f.displacement f.base (written_index f) f.outer) p behind)
-    ≡ Some (mode.Full (read_form f), behind)
+    ≡ Some (mode.Full (valued_form sum_of f), behind)
 full_read f p behind h = full_by f.displacement f.base f.index f.indirection f.outer (is_left_out f) p behind refl h
 
 -- ---- modes
@@ -309,7 +310,7 @@ abbrev indexed_at : ℕ → ℤ → Register → ℕ
 indexed_at p e r = after p (open_mark ∷ value e ++ comma ∷ reg r ∷ comma ∷ [])
 
 pub mode_read : (m : Mode ℤ) (p : ℕ) (behind : List Word) → is_mode m ≡ true → stops behind ≡ true
-    → mode_at (said (mode_lexemes m) p behind) ≡ Some (read_mode m, behind)
+    → mode_at (said (mode_lexemes m) p behind) ≡ Some (valued_mode sum_of m, behind)
 mode_read (mode.Data n) p behind h s = refl
 mode_read (mode.Address n) p behind h s = refl
 mode_read (mode.Indirect n) p behind h s = rw (stepped_end n behind s) refl

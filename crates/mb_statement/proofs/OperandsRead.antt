@@ -25,7 +25,8 @@ use Rattle.mb_syntax.specs.declared.mode.Base.TheVariants as base
 use Rattle.mb_syntax.specs.declared.mode.Displacement.{Displacement}
 use Rattle.mb_syntax.specs.declared.mode.Indirection.{Indirection}
 use Rattle.mb_syntax.specs.declared.mode.Indirection.TheVariants as indirection
-use Rattle.mb_statement.specs.Read.{read_field, read_mode, read_number, read_operand}
+use Rattle.mb_mnemonics.specs.Values.{valued, valued_field, valued_mode, valued_number}
+use Rattle.mb_statement.specs.Read.{sum_of}
 use Rattle.mb_statement.specs.Texts.{is_left_out, is_no_index}
 use Rattle.mb_statement.specs.Written.{is_field_number, is_list, is_mode, is_operand}
 use Rattle.mb_statement.proofs.Lexemes.{Lexeme, both, said}
@@ -44,7 +45,7 @@ abbrev pub field_lexemes : BitField ℤ → List Lexeme
 field_lexemes f = open_brace ∷ number_lexemes f.offset ++ (colon ∷ number_lexemes f.width ++ close_brace ∷ [])
 
 number_read : (n : FieldNumber ℤ) (p : ℕ) (behind : List Word) → ends_sum behind ≡ true
-    → field_number_at (said (number_lexemes n) p behind) ≡ Some (read_number n, behind)
+    → field_number_at (said (number_lexemes n) p behind) ≡ Some (valued_number sum_of n, behind)
 number_read (field_number.Data n) p behind h = refl
 number_read (field_number.Number (pos e)) p behind h = rw (sum_read (pos e) p behind h) refl
 number_read (field_number.Number (negsuc e)) p behind h = rw (sum_read (negsuc e) p behind h) refl
@@ -52,14 +53,14 @@ number_read (field_number.Number (negsuc e)) p behind h = rw (sum_read (negsuc e
 -- a number before a mark that ends it
 number_before : (n : FieldNumber ℤ) (ls : List Lexeme) (p : ℕ) (behind : List Word)
     → ends_sum (said ls (after p (number_lexemes n)) behind) ≡ true
-    → field_number_at (said (number_lexemes n ++ ls) p behind) ≡ Some (read_number n, said ls (after p (number_lexemes n)) behind)
+    → field_number_at (said (number_lexemes n ++ ls) p behind) ≡ Some (valued_number sum_of n, said ls (after p (number_lexemes n)) behind)
 number_before n ls p behind h =
     ap field_number_at (said_append (number_lexemes n) ls p behind) ∙ number_read n p (said ls (after p (number_lexemes n)) behind) h
 
 -- what stands behind `{`
 field_read : (f : BitField ℤ) (p : ℕ) (behind : List Word)
     → field_at (said (number_lexemes f.offset ++ (colon ∷ number_lexemes f.width ++ close_brace ∷ [])) p behind)
-    ≡ Some (read_field f, behind)
+    ≡ Some (valued_field sum_of f, behind)
 field_read f p behind =
     let q = after p (number_lexemes f.offset) + 1 in
     rw (
@@ -90,13 +91,13 @@ ends_operand _ = false
 
 -- a mode with what stands behind it
 place_read : (m : Mode ℤ) (p : ℕ) (behind : List Word) → is_mode m ≡ true → ends_operand behind ≡ true
-    → place_at (said (mode_lexemes m) p behind) ≡ Some (operand.Mode (read_mode m), behind)
+    → place_at (said (mode_lexemes m) p behind) ≡ Some (operand.Mode (valued_mode sum_of m), behind)
 place_read m p [] h s = rw (mode_read m p [] h refl) refl
 place_read m p (word.Comma ∷ words) h s = rw (mode_read m p (word.Comma ∷ words) h refl) refl
 place_read m p (first ∷ words) h s = absurd cc
 
 field_place_read : (m : Mode ℤ) (f : BitField ℤ) (p : ℕ) (behind : List Word) → is_mode m ≡ true
-    → place_at (said (mode_lexemes m ++ field_lexemes f) p behind) ≡ Some (operand.Field (read_mode m) (read_field f), behind)
+    → place_at (said (mode_lexemes m ++ field_lexemes f) p behind) ≡ Some (operand.Field (valued_mode sum_of m) (valued_field sum_of f), behind)
 field_place_read m f p behind h =
     let q = after p (mode_lexemes m) in
     let opened : List Word = said (field_lexemes f) q behind in
@@ -222,7 +223,7 @@ list_operand caches mask p (first ∷ words) h s = absurd cc
 
 -- an operand, whatever its operation takes
 pub operand_read : (caches : Bool) (o : Operand ℤ) (p : ℕ) (behind : List Word) → is_operand caches o ≡ true → ends_operand behind ≡ true
-    → operand_among caches (said (operand_lexemes o) p behind) ≡ Some (read_operand o, behind)
+    → operand_among caches (said (operand_lexemes o) p behind) ≡ Some (valued sum_of o, behind)
 unfolding operand_at
 operand_read caches (operand.Mode m) p behind h s =
     place_among caches (said (mode_lexemes m) p behind) (mode_begins m p behind h (ends_stops behind s)) ∙ place_read m p behind h s
@@ -267,16 +268,16 @@ no_blank caches (first ∷ words) found e = refl
 next_no_blank : (caches : Bool) (o : Operand ℤ) (os : List (Operand ℤ)) (p : ℕ) → is_operand caches o ≡ true
     → skip_blank (said (operand_lexemes o ++ behind_operands os) p []) ≡ said (operand_lexemes o ++ behind_operands os) p []
 next_no_blank caches o [] p h =
-    no_blank caches (said (operand_lexemes o ++ []) p []) (read_operand o, [])
+    no_blank caches (said (operand_lexemes o ++ []) p []) (valued sum_of o, [])
     (ap (operand_among caches) (said_append (operand_lexemes o) [] p []) ∙ operand_read caches o p [] h refl)
 next_no_blank caches o (next ∷ os) p h =
     let behind : List Word = said (behind_operands (next ∷ os)) (after p (operand_lexemes o)) [] in
-    no_blank caches (said (operand_lexemes o ++ behind_operands (next ∷ os)) p []) (read_operand o, behind)
+    no_blank caches (said (operand_lexemes o ++ behind_operands (next ∷ os)) p []) (valued sum_of o, behind)
     (ap (operand_among caches) (said_append (operand_lexemes o) (behind_operands (next ∷ os)) p []) ∙ operand_read caches o p behind h refl)
 
 pub operands_read : (caches : Bool) (os : List (Operand ℤ)) (o : Operand ℤ) (most p : ℕ) → length os < most
     → list_all (is_operand caches) (o ∷ os) ≡ true
-    → operands_of most caches (said (operand_lexemes o ++ behind_operands os) p []) ≡ Some (map read_operand (o ∷ os))
+    → operands_of most caches (said (operand_lexemes o ++ behind_operands os) p []) ≡ Some (map (valued sum_of) (o ∷ os))
 operands_read caches os o zero p few h = absurd (omega arith)
 operands_read caches [] o (suc most) p few h =
     let one : is_operand caches o ≡ true = (both (is_operand caches o) true h).0 in
@@ -287,7 +288,7 @@ operands_read caches (next ∷ os) o (suc most) p few h =
     let rest : List Word = said (operand_lexemes next ++ behind_operands os) (q + 1) [] in
     let more = operands_read caches os next most (q + 1) (omega arith) parts.1 in
     let first : operand_among caches (said (operand_lexemes o ++ (comma ∷ operand_lexemes next ++ behind_operands os)) p [])
-    ≡ Some (read_operand o, word.Comma ∷ rest) =
+    ≡ Some (valued sum_of o, word.Comma ∷ rest) =
     ap (operand_among caches) (said_append (operand_lexemes o) (comma ∷ operand_lexemes next ++ behind_operands os) p [])
     ∙ operand_read caches o p (word.Comma ∷ rest) parts.0 refl in
     rw (first, next_no_blank caches next os (q + 1) (both (is_operand caches next) _ parts.1).0, more) refl

@@ -34,7 +34,8 @@ use Rattle.mb_syntax.specs.Words.{name_word, words_of, word_of}
 use Rattle.mb_statement.specs.Statements.{Statement}
 use Rattle.mb_statement.specs.Texts.{size_text, statement_text}
 use Rattle.mb_statement.specs.Texts.{operands_behind as operands_text}
-use Rattle.mb_statement.specs.Read.{read_of, read_operand}
+use Rattle.mb_mnemonics.specs.Values.{valued}
+use Rattle.mb_statement.specs.Read.{read_of, sum_of}
 use Rattle.mb_statement.specs.Written.{is_name, is_operand, is_written}
 use Rattle.mb_statement.proofs.Lexemes.{ArePlain, Lexeme, IsLexeme, Stands, both, cut_on, cut_step, said, spelled, token_by, tokens_at, words_on}
 use Rattle.mb_statement.proofs.Spelled.{blank, blank_is}
@@ -88,17 +89,17 @@ first_long : (caches : Bool) (o : Operand ℤ) (os : List (Operand ℤ)) (p : �
 first_long caches o os p h =
     let q = after p (operand_lexemes o) in
     let parts = said_append (operand_lexemes o) (behind_operands os) p [] in
-    let some = some_lexemes caches (operand_lexemes o) p (read_operand o, []) (operand_read caches o p [] h refl) in
+    let some = some_lexemes caches (operand_lexemes o) p (valued sum_of o, []) (operand_read caches o p [] h refl) in
     let more = said_long os q in
     let whole = said_length (operand_lexemes o) p (said (behind_operands os) q []) in
     rw parts (omega arith)
 
 operands_said : (caches : Bool) (os : List (Operand ℤ)) (p : ℕ) → list_all (is_operand caches) os ≡ true
-    → operands_behind caches (said (first_operands os) p []) ≡ Some (map read_operand os)
+    → operands_behind caches (said (first_operands os) p []) ≡ Some (map (valued sum_of) os)
 operands_said caches [] p h = refl
 operands_said caches (o ∷ os) p h =
     let words : List Word = said (operand_lexemes o ++ behind_operands os) (p + 1) [] in
-    some_operands caches words (map read_operand (o ∷ os))
+    some_operands caches words (map (valued sum_of) (o ∷ os))
     (operands_read caches os o (length words) (p + 1) (first_long caches o os (p + 1) (both (is_operand caches o) _ h).0) h)
 
 size_read : (s : Option SizeLetter) (os : List (Operand ℤ)) (p : ℕ)

@@ -1,8 +1,6 @@
 pub mod Numbers
 pub mod Modes
-pub mod Names
 pub mod Statements
-pub mod Groups
 pub mod Texts
 pub mod Written
 pub mod Read

@@ -1,12 +1,13 @@
-//! Operands as they are written, by the operands that instructions have.
+//! Operands as they are written, by the words that they have.
 
-ghost use Rattle.std.specs.Prelude.{◌≡◌, pos};
+ghost use Rattle.std.specs.Prelude.{◌≡◌, ◌≤◌};
 ghost use Rattle.mb_alu.specs.Signs.{signed_of};
-ghost use Rattle.mb_statement.specs.Modes.{target_of, width_of, scale_of, index_of, displacement_of, distance_of};
-ghost use Rattle.mb_statement.specs.Modes.{base_displacement, address_base, pc_base, indirection_of, full_of, indexed};
-ghost use Rattle.mb_statement.specs.Modes.{immediate_number, pc_indexed, mode_of};
+ghost use Rattle.mb_statement.specs.Modes.{target_of, width_of, scale_of, index_of, address_base, pc_base};
+ghost use Rattle.mb_statement.specs.Modes.{indirection_of, word_in, long_in, value_from, displacement_in, outer_place};
+ghost use Rattle.mb_statement.specs.Modes.{place_of, full_in, number_in, indexed_in, pc_indexed_in, special_in};
+ghost use Rattle.mb_statement.specs.Modes.{mode_in};
 
-use mb_instr::{Ea, Ext, Size};
+use mb_instr::Size;
 use mb_syntax::{Base, Displacement, FullForm, Index, Indirection, Mode, Scale, Width};
 
 /// The low bytes that count at the size, in two's complement.
@@ -59,49 +60,6 @@ fn index_of(is_dropped: bool, word: u16) -> Index
     }
 }
 
-/// A displacement with the width that a field says.
-fn displacement_of(field: u16, value: u32) -> Option<Displacement<i64>>
-    ensures { result ≡ displacement_of field value }
-{
-    match field {
-        2 => Some(Displacement {
-            value: signed_of(Size::Word, value),
-            width: Width::Word,
-        }),
-        3 => Some(Displacement {
-            value: signed_of(Size::Long, value),
-            width: Width::Long,
-        }),
-        _ => None,
-    }
-}
-
-/// The same, from a place, as its target.
-fn distance_of(place: u32, field: u16, value: u32) -> Option<Displacement<i64>>
-    ensures { result ≡ distance_of place field value }
-{
-    match field {
-        2 => Some(Displacement {
-            value: target_of(Size::Word, place, value),
-            width: Width::Word,
-        }),
-        3 => Some(Displacement {
-            value: target_of(Size::Long, place, value),
-            width: Width::Long,
-        }),
-        _ => None,
-    }
-}
-
-fn base_displacement(place: u32, base: Base, field: u16, value: u32) -> Option<Displacement<i64>>
-    ensures { result ≡ base_displacement place base field value }
-{
-    match base {
-        Base::Pc => distance_of(place, field, value),
-        Base::Address(_) | Base::NoAddress(_) | Base::NoPc => displacement_of(field, value),
-    }
-}
-
 /// Bit 7 drops the base.
 fn address_base(word: u16, n: u8) -> Base
     ensures { result ≡ address_base word n }
@@ -134,83 +92,172 @@ fn indirection_of(word: u16) -> Indirection
     }
 }
 
-/// `rnnn lkk1 BIbb 0iii` and its displacements, of which the first word stands at the place.
-fn full_of(place: u32, base: Base, word: u16, bd: u32, od: u32) -> FullForm<i64>
-    ensures { result ≡ full_of place base word bd od }
+/// The word behind so many, 0 where there is none.
+#[tactic(auto, unfolding(crate::specs::Modes::word_in))]
+pub(crate) fn word_in(n: u8, words: &[u16]) -> u16
+    ensures { result ≡ word_in n words.now }
 {
+    match words {
+        [] => 0,
+        [word, words @ ..] => if n == 0 { *word } else { word_in(n - 1, words) },
+    }
+}
+
+pub(crate) fn long_in(n: u8, words: &[u16]) -> u32
+    requires { n ≤ 9 }
+    ensures { result ≡ long_in n words.now }
+{
+    u32::from(word_in(n, words)) << 16 | u32::from(word_in(n + 1, words))
+}
+
+/// A number of the size, or where it leads from a place.
+fn value_from(place: Option<u32>, size: Size, value: u32) -> i64
+    ensures { result ≡ value_from place size value }
+{
+    match place {
+        None => signed_of(size, value),
+        Some(place) => target_of(size, place, value),
+    }
+}
+
+/// A displacement behind so many words, with the width that a field says.
+fn displacement_in(
+    place: Option<u32>,
+    field: u16,
+    n: u8,
+    words: &[u16],
+) -> Option<Displacement<i64>>
+    requires { n ≤ 9 }
+    ensures { result ≡ displacement_in place field n words.now }
+{
+    match field {
+        2 => Some(Displacement {
+            value: value_from(place, Size::Word, u32::from(word_in(n, words))),
+            width: Width::Word,
+        }),
+        3 => Some(Displacement {
+            value: value_from(place, Size::Long, long_in(n, words)),
+            width: Width::Long,
+        }),
+        _ => None,
+    }
+}
+
+/// Where the outer displacement stands, by the field of the first one.
+fn outer_place(field: u16) -> u8
+    ensures place { result ≡ outer_place field }
+    ensures few { result ≤ 3 }
+{
+    match field {
+        2 => 2,
+        3 => 3,
+        _ => 1,
+    }
+}
+
+/// A target counts from the place of the first extension word.
+fn place_of(place: u32, base: Base) -> Option<u32>
+    ensures { result ≡ place_of place base }
+{
+    match base {
+        Base::Pc => Some(place),
+        Base::Address(_) | Base::NoAddress(_) | Base::NoPc => None,
+    }
+}
+
+/// `rnnn lkk1 BIbb 0iii` and its displacements at the front, of which the first word stands at the place.
+fn full_in(place: u32, base: Base, words: &[u16]) -> FullForm<i64>
+    ensures { result ≡ full_in place base words.now }
+{
+    let word = word_in(0, words);
+    let field = word >> 4 & 3;
     FullForm {
-        displacement: base_displacement(place, base, word >> 4 & 3, bd),
+        displacement: displacement_in(place_of(place, base), field, 1, words),
         base,
         index: index_of(word >> 6 & 1 == 1, word),
         indirection: indirection_of(word),
-        outer: displacement_of(word & 3, od),
-    }
-}
-
-fn indexed(place: u32, n: u8, ext: Ext) -> Mode<i64>
-    ensures { result ≡ indexed place n ext }
-{
-    match ext {
-        Ext::Brief(word) => Mode::Indexed {
-            register: n,
-            displacement: signed_of(Size::Byte, u32::from(word)),
-            index: index_of(false, word),
-        },
-        Ext::Full { word, bd, od } => {
-            Mode::Full(full_of(place, address_base(word, n), word, bd, od))
-        }
-    }
-}
-
-fn pc_indexed(place: u32, ext: Ext) -> Mode<i64>
-    ensures { result ≡ pc_indexed place ext }
-{
-    match ext {
-        Ext::Brief(word) => Mode::PcIndexed {
-            target: target_of(Size::Byte, place, u32::from(word)),
-            index: index_of(false, word),
-        },
-        Ext::Full { word, bd, od } => Mode::Full(full_of(place, pc_base(word), word, bd, od)),
+        outer: displacement_in(None, word & 3, outer_place(field), words),
     }
 }
 
 /// The number of an immediate of the size. A byte has a whole word, which is `$FF80` to `$FFFF` where it is negative.
-pub(crate) fn immediate_number(size: Size, value: u32) -> i64
-    ensures { result ≡ immediate_number size value }
+pub(crate) fn number_in(size: Size, words: &[u16]) -> i64
+    ensures { result ≡ number_in size words.now }
 {
+    let word = u32::from(word_in(0, words));
     match size {
-        Size::Byte if value >= 0xff80 => signed_of(Size::Word, value),
-        Size::Byte | Size::Word | Size::Long => i64::from(value),
+        Size::Byte if word >= 0xff80 => signed_of(Size::Word, word),
+        Size::Byte | Size::Word => i64::from(word),
+        Size::Long => i64::from(long_in(0, words)),
     }
 }
 
-/// The mode of an operand whose first extension word stands at the place.
-pub(crate) fn mode_of(place: u32, ea: &Ea) -> Mode<i64>
-    ensures { result ≡ mode_of place ea.now }
+fn indexed_in(place: u32, n: u8, words: &[u16]) -> Mode<i64>
+    ensures { result ≡ indexed_in place n words.now }
 {
-    match *ea {
-        Ea::Dn(n) => Mode::Data(n),
-        Ea::An(n) => Mode::Address(n),
-        Ea::Ind(n) => Mode::Indirect(n),
-        Ea::Post(n) => Mode::PostIncrement(n),
-        Ea::Pre(n) => Mode::PreDecrement(n),
-        Ea::Disp(n, d) => Mode::Displaced {
+    let word = word_in(0, words);
+    if word >> 8 & 1 == 0 {
+        Mode::Indexed {
             register: n,
-            displacement: signed_of(Size::Word, u32::from(d)),
-        },
-        Ea::Index(n, ext) => indexed(place, n, ext),
-        Ea::AbsW(address) => Mode::Absolute {
-            address: i64::from(address),
+            displacement: signed_of(Size::Byte, u32::from(word)),
+            index: index_of(false, word),
+        }
+    } else {
+        Mode::Full(full_in(place, address_base(word, n), words))
+    }
+}
+
+fn pc_indexed_in(place: u32, words: &[u16]) -> Mode<i64>
+    ensures { result ≡ pc_indexed_in place words.now }
+{
+    let word = word_in(0, words);
+    if word >> 8 & 1 == 0 {
+        Mode::PcIndexed {
+            target: target_of(Size::Byte, place, u32::from(word)),
+            index: index_of(false, word),
+        }
+    } else {
+        Mode::Full(full_in(place, pc_base(word), words))
+    }
+}
+
+/// An operand of mode 7, where the register's field says which mode it is.
+fn special_in(size: Size, place: u32, n: u8, words: &[u16]) -> Mode<i64>
+    ensures { result ≡ special_in size place n words.now }
+{
+    match n {
+        0 => Mode::Absolute {
+            address: i64::from(word_in(0, words)),
             width: Some(Width::Word),
         },
-        Ea::AbsL(address) => Mode::Absolute {
-            address: i64::from(address),
+        1 => Mode::Absolute {
+            address: i64::from(long_in(0, words)),
             width: Some(Width::Long),
         },
-        Ea::PcDisp(d) => Mode::PcDisplaced {
-            target: target_of(Size::Word, place, u32::from(d)),
+        2 => Mode::PcDisplaced {
+            target: target_of(Size::Word, place, u32::from(word_in(0, words))),
         },
-        Ea::PcIndex(ext) => pc_indexed(place, ext),
-        Ea::Imm(value) => Mode::Immediate(i64::from(value)),
+        3 => pc_indexed_in(place, words),
+        _ => Mode::Immediate(number_in(size, words)),
+    }
+}
+
+/// The operand of the size with the kind of mode and the register, whose extension words are at the front and stand at
+/// the place.
+pub(crate) fn mode_in(size: Size, place: u32, kind: u8, n: u8, words: &[u16]) -> Mode<i64>
+    ensures { result ≡ mode_in size place kind n words.now }
+{
+    match kind {
+        0 => Mode::Data(n),
+        1 => Mode::Address(n),
+        2 => Mode::Indirect(n),
+        3 => Mode::PostIncrement(n),
+        4 => Mode::PreDecrement(n),
+        5 => Mode::Displaced {
+            register: n,
+            displacement: signed_of(Size::Word, u32::from(word_in(0, words))),
+        },
+        6 => indexed_in(place, n, words),
+        _ => special_in(size, place, n, words),
     }
 }

@@ -1,10 +1,9 @@
 //! Statements as they are listed.
 
 ghost use Rattle.std.specs.Prelude.{◌≡◌, ◌≤◌, length};
-ghost use Rattle.mb_statement.specs.Statements.{letter_of, plain, sized};
-ghost use Rattle.mb_statement.specs.Answers.{operands_said, statement_said};
+ghost use Rattle.mb_statement.specs.Answers.{operands_said};
 
-use mb_instr::Size;
+use arrayvec::ArrayVec;
 use mb_syntax::{Operand, SizeLetter};
 
 /// At most three operands.
@@ -30,45 +29,13 @@ impl Operands {
     }
 }
 
+/// A name of at most eight bytes.
+pub type Name = ArrayVec<u8, 8>;
+
 /// The name of an operation, its size where one is written, and its operands.
 #[derive(Drop)]
 pub struct Statement {
-    pub name: &'static [u8],
+    pub name: Name,
     pub size: Option<SizeLetter>,
     pub operands: Operands,
-}
-
-fn letter_of(size: Size) -> SizeLetter
-    ensures { result ≡ letter_of size }
-{
-    match size {
-        Size::Byte => SizeLetter::Byte,
-        Size::Word => SizeLetter::Word,
-        Size::Long => SizeLetter::Long,
-    }
-}
-
-/// A statement without a size.
-pub(crate) fn plain(name: &'static [u8], operands: Operands) -> Statement
-    requires { length name.now ≤ 8 }
-    ensures statement { statement_said result ≡ plain name.now (operands_said operands) }
-    ensures short { length result.name.now ≤ 8 }
-{
-    Statement {
-        name,
-        size: None,
-        operands,
-    }
-}
-
-pub(crate) fn sized(name: &'static [u8], size: Size, operands: Operands) -> Statement
-    requires { length name.now ≤ 8 }
-    ensures statement { statement_said result ≡ sized name.now size (operands_said operands) }
-    ensures short { length result.name.now ≤ 8 }
-{
-    Statement {
-        name,
-        size: Some(letter_of(size)),
-        operands,
-    }
 }

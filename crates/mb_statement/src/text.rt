@@ -478,12 +478,12 @@ fn push_operands(line: &mut LineText, mark: u8, operands: &[Operand<i64>])
 
 #[tactic(auto, unfolding(crate::specs::Texts::statement_text))]
 pub fn push_statement(line: &mut LineText, statement: &Statement)
-    requires name { length statement.now.name.now ≤ 8 }
+    requires name { length statement.now.name.items ≤ 8 }
     requires room { array_vec_len line.old + 301 ≤ 512 }
     ensures pushed { line.new.items ≡ line.old.items ++ statement_text (statement_said statement.now) }
     ensures len { array_vec_len line.new ≤ array_vec_len line.old + 301 }
 {
-    push_bytes(line, statement.name);
+    push_bytes(line, statement.name.as_slice());
     push_bytes(line, size_text(statement.size));
     push_operands(line, b' ', statement.operands.as_slice());
 }

@@ -180,6 +180,6 @@ fn are_operands(takes_caches: bool, operands: &[Operand<i64>]) -> bool
 pub fn is_written(statement: &Statement) -> bool
     ensures { result ≡ is_written (statement_said statement.now) }
 {
-    is_name(statement.name)
-        && are_operands(takes_caches(statement.name), statement.operands.as_slice())
+    let name = statement.name.as_slice();
+    is_name(name) && are_operands(takes_caches(name), statement.operands.as_slice())
 }

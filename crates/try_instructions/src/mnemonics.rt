@@ -4,7 +4,7 @@
 use crate::spelled::spell;
 use mb_encode::encode;
 use mb_instr::{Caches, ControlRegister};
-use mb_mnemonics::{Ending, Line, MeansFault, Pattern, instruction_of, length_of, lines};
+use mb_mnemonics::{Ending, Line, MeansFault, Pattern, Patterns, instruction_of, length_of, lines};
 use mb_port::MmuReg;
 use mb_syntax::Base::{Address, NoAddress, NoPc, Pc};
 use mb_syntax::Indirection::{Direct, PostIndexed, PreIndexed};
@@ -300,6 +300,7 @@ fn forms_of(pattern: Pattern) -> (u8, u8) {
     match pattern {
         Pattern::FieldMode(_) => (8 + MODES, OPERANDS),
         Pattern::RegisterList
+        | Pattern::ReversedList
         | Pattern::Sr
         | Pattern::Ccr
         | Pattern::Usp
@@ -319,28 +320,32 @@ fn forms_of(pattern: Pattern) -> (u8, u8) {
     }
 }
 
-/// The operands that may stand in this place of a line; one that is not used where the line does not have it.
-fn forms_at(line: &Line, place: usize) -> (u8, u8) {
-    match line.operands.get(place) {
-        Some(pattern) => forms_of(*pattern),
-        None => (0, 1),
+/// Where a line has no operand: one that is not used.
+const NOTHING: (u8, u8) = (0, 1);
+
+/// The operands that may stand in each place of a line, and how many it has.
+fn forms_at(line: &Line) -> ([(u8, u8); 3], usize) {
+    match line.operands {
+        Patterns::Nothing => ([NOTHING, NOTHING, NOTHING], 0),
+        Patterns::One(a) => ([forms_of(a), NOTHING, NOTHING], 1),
+        Patterns::Two(a, b) => ([forms_of(a), forms_of(b), NOTHING], 2),
+        Patterns::Three(a, b, c) => ([forms_of(a), forms_of(b), forms_of(c)], 3),
     }
 }
 
 /// How many statements of a line with operands of its patterns' kinds, under the name and size, have a length. Each of
 /// them means an instruction.
 fn count_meant(rt: &impl Abort, line: &Line, name: &[u8], letter: Option<SizeLetter>) -> u32 {
-    let places = line.operands.len().min(3);
-    let [first, second, third] = [forms_at(line, 0), forms_at(line, 1), forms_at(line, 2)];
+    let ([first, second, third], places) = forms_at(line);
     let mut count = 0u32;
     for i in first.0..first.1 {
         for j in second.0..second.1 {
             for k in third.0..third.1 {
                 let operands = [operand(i), operand(j), operand(k)];
-                let operands = &operands[..places];
+                let operands = &operands[..places.min(3)];
                 if length_of(name, letter, operands).is_ok() {
                     let meant = instruction_of(name, letter, operands, AT).is_ok();
-                    assert!(rt; meant, "at {} {letter:?} {operands:?}", line.stem);
+                    assert!(rt; meant, "at {name:?} {letter:?} {operands:?}");
                     count = count.saturating_add(1);
                 }
             }
@@ -354,7 +359,7 @@ fn count_meant(rt: &impl Abort, line: &Line, name: &[u8], letter: Option<SizeLet
 fn each_line_has_its_row(rt: HostRuntime) -> Result<(), Fail> {
     for line in lines() {
         let mut name = String::new(rt.alloc());
-        name.push_str(line.stem)?;
+        name.push_str(str::from_utf8(line.stem.letters())?)?;
         if line.ending != Ending::Plain {
             name.push_str("EQ")?;
         }
@@ -363,7 +368,7 @@ fn each_line_has_its_row(rt: HostRuntime) -> Result<(), Fail> {
             let meant = count_meant(&rt, line, name.as_str().as_bytes(), letter);
             found = found.saturating_add(meant);
         }
-        assert!(rt; found > 0, "at {}", line.stem);
+        assert!(rt; found > 0, "at {}", name.as_str());
     }
     Ok(())
 }

@@ -3,4 +3,4 @@ use Rattle.mb_mnemonics.proofs.front.+operands_words.Given as goal
 
 -- it goes down the list
 abbrev pub decreases-operands_words : goal.decreases-operands_words
-decreases-operands_words l = length l.patterns.now
+decreases-operands_words l = length l.operands.now
