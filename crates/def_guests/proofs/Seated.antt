@@ -10,8 +10,8 @@ use Rattle.vm_shadow.specs.declared.area.TheConstants.{AREA_BYTES}
 use Rattle.vm_shadow.proofs.Alone.{tables_are_of_the_area}
 use Rattle.def_runs.specs.Marks.{trail}
 use Rattle.def_guests.specs.Guests.{Truthful}
-use Rattle.def_guests.specs.Turns.{Turned, bus_side, turn_of}
-use Rattle.def_guests.specs.Seats.{on_board, own, Seat, end_of, machine_on, turned_on, IsSeated, OnlyWithin}
+use Rattle.def_guests.specs.Turns.{Guested, bus_side, turn_of}
+use Rattle.def_guests.specs.Seats.{on_board, own, Seat, end_of, guested_on, machine_on, turned_on, IsSeated, OnlyWithin}
 use Rattle.def_guests.specs.declared.limits.TheConstants.{MONITOR_BYTES}
 use Rattle.def_guests.specs.Stages.{LieApart}
 use Rattle.def_guests.specs.Laws.{NothingIsTaken, TakesAdd, with_before}
@@ -51,25 +51,14 @@ left_alone g h x y w (inr below) r s at k l m =
     stays_inside x y MONITOR_BYTES (g.base - MONITOR_BYTES) at k w.below (omega arith) (omega arith)
 
 pub record Alone (h : Seat) (x y : List ℕ) : Type 0 where
-  pub machine : machine_on h y ≡ machine_on h x
-  pub tables : shadowed h.slots y ≡ shadowed h.slots x
+  pub guest : guested_on h y ≡ guested_on h x
   pub seated : IsSeated h y
 
-pub turned_alone : (h : Seat) (x y : List ℕ) (marks : List Plain) (e : ℕ) → machine_on h y ≡ machine_on h x → shadowed h.slots y ≡ shadowed h.slots x
-    → turned_on h y marks e ≡ turned_on h x marks e
-turned_alone h x y marks e m t =
-    ap (λ (n : Machine). record {
-      guest = record { machine = n; shadow = own h.base (shadowed h.slots y) };
-      tally = h.tally;
-      marks = marks;
-      exceptions = e;
-    }) m
-    ∙ ap (λ (z : Shadowed). record {
-      guest = record { machine = machine_on h x; shadow = own h.base z };
-      tally = h.tally;
-      marks = marks;
-      exceptions = e;
-    }) t
+guested_alone : (h : Seat) (x y : List ℕ) → machine_on h y ≡ machine_on h x → shadowed h.slots y ≡ shadowed h.slots x
+    → guested_on h y ≡ guested_on h x
+guested_alone h x y m t =
+    ap (λ (n : Machine). record { machine = n; shadow = own h.base (shadowed h.slots y) }) m
+    ∙ ap (λ (z : Shadowed). record { machine = machine_on h x; shadow = own h.base z }) t
 
 pub alone : (g h : Seat) (x y : List ℕ) → OnlyWithin g x y → LieApart g h → MONITOR_BYTES ≤ g.base → IsSeated h x → Alone h x y
 alone g h x y w apart behind s =
@@ -82,9 +71,9 @@ alone g h x y w apart behind s =
       world = record { ram = m; mmu = h.mmu; devices = h.devices; kept = h.kept ∷ [] };
       steps = h.steps;
       state = h.state;
-    }) ram in record {
-      machine = machine;
-      tables = maps.1;
+    }) ram in
+    let guest = guested_alone h x y machine maps.1 in record {
+      guest = guest;
       seated = record {
         aligned = s.aligned;
         whole = s.whole;
@@ -93,7 +82,7 @@ alone g h x y w apart behind s =
         area = s.area;
         maps = maps.0;
         tables = maps.1 ∙ s.tables ∙ ap (λ (z : Shadowed). on_board h.base (own h.base z)) (sym maps.1);
-        truthful = subst (λ (t : Turned). Truthful h.size (bus_side t.guest)) (sym (turned_alone h x y [] 0 machine maps.1)) s.truthful;
+        truthful = subst (λ (t : Guested). Truthful h.size (bus_side t)) (sym guest) s.truthful;
       };
     }
 

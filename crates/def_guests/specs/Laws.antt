@@ -1,5 +1,6 @@
 -- What holds of a guest's steps, turns and rounds.
-use Rattle.std.specs.Prelude.{◌≡◌, ℕ, ◌+◌, ◌*◌, ◌<◌, ◌≤◌, false, true, List, [], ◌++◌, length}
+use Rattle.std.specs.Prelude.{◌≡◌, ◌≢◌, ℕ, ◌+◌, ◌*◌, ◌≤◌, false, true, List, [], ◌++◌, length, Some, slice_get}
+use Rattle.std.specs.Prelude.{slice_set}
 use Rattle.mb_port.specs.Routine.{run}
 use Rattle.mb_instr.specs.declared.registers.Plain.{Plain}
 use Rattle.mb_instr.specs.Registers.{plain_of}
@@ -20,7 +21,7 @@ use Rattle.def_guests.specs.Bus.{accessed, guest_bus}
 use Rattle.def_guests.specs.Classes.{class_at, class_of_attempt}
 use Rattle.def_guests.specs.Turns.{Guested, Turned, guest_stepped, turn_of, steps_in, exits, prepared, tally_of}
 use Rattle.def_guests.specs.Turns.{marks_between}
-use Rattle.def_guests.specs.Seats.{Seat, machine_on, turned_on, IsSeated, Scene, Takes}
+use Rattle.def_guests.specs.Seats.{Seat, guested_on, machine_on, turned_on, IsSame, IsSeated, OnlyWithin, Scene, Takes}
 use Rattle.def_guests.specs.Stages.{Stage, AllSeated, Turns, TakeTurns, steps_for, HasTaken}
 use Rattle.def_guests.specs.Rounds.{Hosted, Ends}
 
@@ -128,11 +129,21 @@ NothingIsTaken = (s : Scene) → IsSeated s.guest s.ram → Takes 0 s s
 abbrev pub TakesAdd : Type 0
 TakesAdd = (n m : ℕ) (s t u : Scene) → Takes n s t → Takes m t u → Takes (n + m) s u
 
+-- Where a guest changes, and of the board's memory its own part and the monitor's alone, all stay seated, and every other
+-- has the machine and the shadow that it had.
+abbrev pub OthersStay : Type 0
+OthersStay = (guests : List Seat) (place : ℕ) (g h : Seat) (before after : List ℕ) → AllSeated guests before
+    → slice_get guests place ≡ Some g → IsSame g h → IsSeated h after → OnlyWithin g before after
+    → AllSeated (slice_set guests place h) after
+    × ((other : ℕ) (k : Seat) → other ≢ place → slice_get guests other ≡ Some k
+    → guested_on k after ≡ guested_on k before)
+
 -- Whatever turns there are, in whatever order, all guests stay seated and apart, and each guest's machine, shadow and
 -- counts are those of one turn of all the steps that the turns gave it.
 abbrev pub TurnsAreIndependent : Type 0
-TurnsAreIndependent = (turns : Turns) (s t : Stage) → AllSeated s → TakeTurns turns s t → (j : ℕ) → j < s.count
-    → AllSeated t × HasTaken j (steps_for j turns) s t
+TurnsAreIndependent = (turns : Turns) (s t : Stage) → AllSeated s.guests s.ram → TakeTurns turns s t
+    → AllSeated t.guests t.ram
+    × ((place : ℕ) (g : Seat) → slice_get s.guests place ≡ Some g → HasTaken place (steps_for place turns) g s t)
 
 -- So a guest that is prepared on the board comes to the machine of its own image, script, RAM and steps, with the
 -- counts of that run, whatever turns the others take.
@@ -141,9 +152,11 @@ pub record RunsAlone (opening : Opening) (script : Entries) (size n : ℕ) (gues
   pub tally : guest.tally ≡ tally_of opening script size n
 
 abbrev pub PreparedGuestsRunAlone : Type 0
-PreparedGuestsRunAlone = (turns : Turns) (s t : Stage) → AllSeated s → TakeTurns turns s t → (j : ℕ) → j < s.count
-    → (opening : Opening) (size : ℕ) → turned_on (s.guests j) s.ram [] 0 ≡ prepared opening size
-    → RunsAlone opening (s.guests j).script size (steps_for j turns) (t.guests j) t.ram
+PreparedGuestsRunAlone = (turns : Turns) (s t : Stage) → AllSeated s.guests s.ram → TakeTurns turns s t
+    → (place : ℕ) (g : Seat) → slice_get s.guests place ≡ Some g
+    → (opening : Opening) (size : ℕ) → turned_on g s.ram [] 0 ≡ prepared opening size
+    → (h : Seat) × (slice_get t.guests place ≡ Some h)
+    × RunsAlone opening g.script size (steps_for place turns) h t.ram
 
 -- Rounds end, each guest has then taken its bound, and a second run changes nothing.
 abbrev pub RoundsEnd : Type 0

@@ -17,7 +17,7 @@ ghost use Rattle.def_guests.specs.Laws.{HaltedTurnsStay, TurnsAdd, MarksStayBefo
 ghost use Rattle.def_guests.specs.Laws.{CountsAreSteps, MarksAreOfRetired, MarksAppend, TrailsAppend};
 ghost use Rattle.def_guests.specs.Laws.{ExceptionsAreBounded};
 ghost use Rattle.def_guests.specs.Laws.{NothingIsTaken, TakesAdd};
-ghost use Rattle.def_guests.specs.Laws.{TurnsAreIndependent, PreparedGuestsRunAlone, RoundsEnd};
+ghost use Rattle.def_guests.specs.Laws.{OthersStay, TurnsAreIndependent, PreparedGuestsRunAlone, RoundsEnd};
 ghost use Rattle.def_guests.specs.Rests.{TrapsAreFinished, DeniedWritesGoOn, DeniedLinesGoOn, DeniedTransfersGoOn};
 ghost use Rattle.def_guests.specs.Exits.{ExitsTell};
 
@@ -67,6 +67,7 @@ pub fn seated_turns_add()
 
 /// Turns of one guest on a board are nothing to any other, in whatever order.
 pub fn turns_are_independent()
+    ensures others { OthersStay }
     ensures independent { TurnsAreIndependent }
     ensures alone { PreparedGuestsRunAlone }
 {}

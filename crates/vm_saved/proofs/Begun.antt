@@ -19,13 +19,16 @@ pub starts_mark : StartsMark
 starts_mark opening script size k n = refl
 
 pub begun_guests_run_alone : BegunGuestsRunAlone
-begun_guests_run_alone turns s t all taken j less m is =
+begun_guests_run_alone turns s t all taken j g here m is =
     let n = steps_for j turns in
-    let script = (s.guests j).script in
-    let own = (turns_are_independent turns s t all taken j less).1 in
-    let whole = own.2 ∙ ap (turn_of script n) is in
-    let machine = ap (λ (u : Turned). u.guest.machine) whole ∙ turns_by_rule script n (beginning m) in record {
-      machine = machine;
-      tally = ap (λ (u : Turned). u.tally) whole;
-      free = ended-is_free rule_k script n m (machine_on (t.guests j) t.ram) machine;
-    }
+    let own = (turns_are_independent turns s t all taken).1 j g here in
+    let whole = own.turned ∙ ap (turn_of g.script n) is in
+    let machine = ap (λ (u : Turned). u.guest.machine) whole ∙ turns_by_rule g.script n (beginning m) in (
+      own.now,
+      own.here,
+      record {
+        machine = machine;
+        tally = ap (λ (u : Turned). u.tally) whole;
+        free = ended-is_free rule_k g.script n m (machine_on own.now t.ram) machine;
+      },
+    )

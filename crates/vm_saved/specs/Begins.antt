@@ -1,5 +1,5 @@
 -- Runs, counts and marks of a guest that begins with any machine.
-use Rattle.std.specs.Prelude.{◌≡◌, ℕ, ◌+◌, ◌-◌, ◌*◌, ◌<◌, ◌≤◌, true, false, List, [], ◌++◌, length}
+use Rattle.std.specs.Prelude.{◌≡◌, ℕ, ◌+◌, ◌-◌, ◌*◌, ◌≤◌, true, false, List, [], ◌++◌, length, Some, slice_get}
 use Rattle.mb_instr.specs.declared.registers.Plain.{Plain}
 use Rattle.mb_model.specs.Keeping.{Rule, rule_k}
 use Rattle.def_machine.specs.Machine.{Entries, Machine, Opening, going, run_of, start, takes_steps}
@@ -106,6 +106,7 @@ pub record RunsFrom (m : Machine) (script : Entries) (n : ℕ) (guest : Seat) (r
 
 -- Whatever turns there are, a guest that began with a machine comes to that.
 abbrev pub BegunGuestsRunAlone : Type 0
-BegunGuestsRunAlone = (turns : Turns) (s t : Stage) → AllSeated s → TakeTurns turns s t → (j : ℕ) → j < s.count
-    → (m : Machine) → turned_on (s.guests j) s.ram [] 0 ≡ beginning m
-    → RunsFrom m (s.guests j).script (steps_for j turns) (t.guests j) t.ram
+BegunGuestsRunAlone = (turns : Turns) (s t : Stage) → AllSeated s.guests s.ram → TakeTurns turns s t
+    → (place : ℕ) (g : Seat) → slice_get s.guests place ≡ Some g
+    → (m : Machine) → turned_on g s.ram [] 0 ≡ beginning m
+    → (h : Seat) × (slice_get t.guests place ≡ Some h) × RunsFrom m g.script (steps_for place turns) h t.ram

@@ -1,10 +1,12 @@
 -- A guest that has become a saved one, and one that takes as many steps as it is told.
 use Rattle.std.proofs.Common.{◌≡◌, ◌∙◌, ℕ, zero, suc, ◌+◌, ◌<◌, List, [], ◌∷◌, length, get_or, set, refl, ap, sym, subst, arith}
 use Rattle.std.specs.Prelude.{slice_get, IfSome}
+use Rattle.std.proofs.Math.Seq.{map-set_same}
 use Rattle.mb_saved.specs.Saved.{Saved}
 use Rattle.def_machine.specs.Machine.{Entries}
 use Rattle.def_guests.specs.Rounds.{Member, closed_by}
 use Rattle.def_guests.specs.Seats.{Seat, end_of, guested_on, turned_on, IsSame, IsSeated, OnlyWithin}
+use Rattle.def_guests.specs.Stages.{AllSeated}
 use Rattle.def_guests.specs.Turns.{Turned}
 use Rattle.vm_saved.specs.Begins.{beginning}
 use Rattle.vm_saved.specs.Saved.{machine_of}
@@ -13,7 +15,7 @@ use Rattle.vm_guest.proofs.Prepared.{wider}
 use Rattle.vm_guest.proofs.Seated.{only_within}
 use Rattle.vm_slices.specs.declared.host_guest.HostGuest.{HostGuest}
 use Rattle.vm_slices.specs.Adopting.{begun, bounded}
-use Rattle.vm_slices.specs.Places.{member_of, members_of, with_member, StandFrom}
+use Rattle.vm_slices.specs.Places.{member_of, members_of, seats_of, with_member}
 
 pub member_begun : (saved : Saved) (g : HostGuest) (h : Seat) (x y : List ℕ)
     → turned_on h y [] 0 ≡ beginning (machine_of g.guest.devices.disk saved) → IsSame g.guest h
@@ -42,11 +44,14 @@ held_at P (k ∷ ks) ram (suc i) g less is holds = held_at P ks ram i g (omega a
 
 -- ---- a bound that changes
 
-pub with_bound : (steps from : ℕ) (gs : List HostGuest) (i : ℕ) (r : HostGuest) (x : List ℕ) → StandFrom from gs x → i < length gs
-    → StandFrom from (set gs i (record { guest = (get_or gs i r).guest; bound = steps })) x
-    × (members_of (set gs i (record { guest = (get_or gs i r).guest; bound = steps })) x ≡ with_member i (bounded steps) (members_of gs x))
-with_bound steps from [] i r x all less = absurd (omega arith)
-with_bound steps from (k ∷ ks) zero r x all less = (all, refl)
-with_bound steps from (k ∷ ks) (suc i) r x all less =
-    let rest = with_bound steps (end_of k.guest) ks i r x all.2 (omega arith) in
-    ((all.0, all.1, rest.0), ap (λ (ms : List Member). member_of x k ∷ ms) rest.1)
+pub bound_stands : (steps : ℕ) (gs : List HostGuest) (i : ℕ) (r : HostGuest) (x : List ℕ) → AllSeated (seats_of gs) x
+    → AllSeated (seats_of (set gs i (record { guest = (get_or gs i r).guest; bound = steps }))) x
+bound_stands steps gs i r x =
+    subst (λ (seats : List Seat). AllSeated seats x)
+    (sym (map-set_same (λ (g : HostGuest). g.guest) gs i (record { guest = (get_or gs i r).guest; bound = steps }) r refl))
+
+pub with_bound : (steps : ℕ) (gs : List HostGuest) (i : ℕ) (r : HostGuest) (x : List ℕ) → i < length gs
+    → members_of (set gs i (record { guest = (get_or gs i r).guest; bound = steps })) x ≡ with_member i (bounded steps) (members_of gs x)
+with_bound steps [] i r x less = absurd (omega arith)
+with_bound steps (k ∷ ks) zero r x less = refl
+with_bound steps (k ∷ ks) (suc i) r x less = ap (λ (ms : List Member). member_of x k ∷ ms) (with_bound steps ks i r x (omega arith))

@@ -2,20 +2,21 @@
 use Rattle.std.proofs.Common.{◌≡◌, ◌∙◌, ℕ, zero, suc, ◌+◌, ◌*◌, ◌%◌, ◌^◌, ◌≤◌, ◌<◌, List, [], ◌∷◌, ◌++◌, length}
 use Rattle.std.proofs.Common.{get_or, drop, map, refl, ap, sym, subst, arith, append_assoc}
 use Rattle.std.specs.Prelude.{All, sum_by}
-use Rattle.std.proofs.lemmas.List.{append-nil, length-map}
+use Rattle.std.proofs.lemmas.List.{append-nil, length-map, map-append}
+use Rattle.std.proofs.lemmas.List.Elements.{All-nil, All-push}
 use Rattle.std.proofs.lemmas.List.Sums.{sum_by-cons}
 use Rattle.vm_shadow.specs.declared.area.TheConstants.{AREA_BYTES}
-use Rattle.def_guests.specs.Seats.{end_of, IsSeated}
+use Rattle.def_guests.specs.Seats.{Seat, end_of, IsSeated}
+use Rattle.def_guests.specs.Stages.{AllSeated}
 use Rattle.def_guests.specs.declared.limits.TheConstants.{MONITOR_BYTES}
 use Rattle.def_guests.specs.Rounds.{Member}
 use Rattle.vm_guest.specs.Memory.{OnlyBetween}
 use Rattle.vm_guest.specs.Session.{GuestAtStart, IsGuest}
-use Rattle.vm_guest.proofs.Seated.{only_within}
 use Rattle.vm_slices.specs.declared.host_guest.HostGuest.{HostGuest}
 use Rattle.vm_slices.specs.Fit.{share_of, need_of}
 use Rattle.vm_slices.specs.Members.{member_at_start, IsBounded}
-use Rattle.vm_slices.specs.Places.{member_of, members_of, StandFrom}
-use Rattle.vm_slices.proofs.Places.{further, bounded_behind, end_of_all}
+use Rattle.vm_slices.specs.Places.{member_of, members_of, seats_of}
+use Rattle.vm_slices.proofs.Places.{further, bounded_behind}
 
 -- ---- numbers
 
@@ -54,19 +55,25 @@ no_shares (k ∷ ks) (suc i) more = no_shares ks i (omega arith)
 pub record Stands (all rest : List GuestAtStart) (hosts : List HostGuest) (base : ℕ) (ram : List ℕ) : Type 0 where
   pub guests : All IsGuest rest
   pub members : members_of hosts ram ++ map member_at_start rest ≡ map member_at_start all
-  pub stand : StandFrom MONITOR_BYTES hosts ram
+  pub stand : AllSeated (seats_of hosts) ram
   pub bounds : All IsBounded (members_of hosts ram)
-  pub end : end_of_all MONITOR_BYTES hosts ≡ base
+  pub before : All (λ (g : Seat). end_of g ≤ base) (seats_of hosts)
   pub aligned : base % 65536 ≡ 0
   pub behind : MONITOR_BYTES ≤ base
   pub room : base + sum_by share_of rest ≤ length ram
 
-none_bounded : All IsBounded []
-none_bounded k d less = absurd (omega arith)
-
 pub first_stands : (all : List GuestAtStart) (ram : List ℕ) → All IsGuest all → need_of all ≤ length ram → Stands all all [] MONITOR_BYTES ram
 first_stands all ram guests room =
-    record { guests = guests; members = refl; stand = tt; bounds = none_bounded; end = refl; aligned = refl; behind = omega arith; room = room }
+    record {
+      guests = guests;
+      members = refl;
+      stand = record { seated = All-nil (λ (g : Seat). IsSeated g ram); apart = λ i j d less inside. absurd (omega arith) };
+      bounds = All-nil IsBounded;
+      before = All-nil (λ (g : Seat). end_of g ≤ MONITOR_BYTES);
+      aligned = refl;
+      behind = omega arith;
+      room = room;
+    }
 
 -- the next one has room
 pub next_guest : (all rest : List GuestAtStart) (g : GuestAtStart) (hosts : List HostGuest) (base : ℕ) (ram : List ℕ)
@@ -81,12 +88,11 @@ pub next_stands : (all rest : List GuestAtStart) (g : GuestAtStart) (hosts : Lis
     → Stands all rest (hosts ++ h ∷ []) (base + g.ram + AREA_BYTES) y
 next_stands all rest g hosts h base x y s start at size seated bound between =
     let end : base + g.ram + AREA_BYTES ≡ end_of h.guest = omega arith in
-    let last = s.end in
     let behind = s.behind in
     let own : OnlyBetween h.guest.base (end_of h.guest) x y =
     subst (λ (n : ℕ). OnlyBetween h.guest.base n x y) end (subst (λ (n : ℕ). OnlyBetween n (base + g.ram + AREA_BYTES) x y) (sym at) between) in
-    let f = further MONITOR_BYTES hosts h x y s.stand (omega arith) (omega arith) seated
-    (only_within h.guest x y (omega arith) own) in
+    let here : All (λ (k : Seat). end_of k ≤ h.guest.base) (seats_of hosts) = subst (λ (n : ℕ). All (λ (k : Seat). end_of k ≤ n) (seats_of hosts)) (sym at) s.before in
+    let joined = further hosts h x y s.stand here seated own in
     let ram = (s.guests zero g (omega arith)).ram in
     let whole = ram.2 in
     let aligned = s.aligned in
@@ -95,13 +101,15 @@ next_stands all rest g hosts h base x y s start at size seated bound between =
     let count = between.count in
     record {
       guests = rest_of IsGuest g rest s.guests;
-      members = ap (λ (ms : List Member). ms ++ map member_at_start rest) f.members
+      members = ap (λ (ms : List Member). ms ++ map member_at_start rest) joined.1
           ∙ append_assoc (members_of hosts x) (member_of y h ∷ []) (map member_at_start rest)
           ∙ ap (λ (m : Member). members_of hosts x ++ m ∷ map member_at_start rest) start
           ∙ s.members;
-      stand = f.stand;
-      bounds = subst (λ (ms : List Member). All IsBounded ms) (sym f.members) (bounded_behind (members_of hosts x) (member_of y h) s.bounds bound);
-      end = f.end ∙ sym end;
+      stand = joined.0;
+      bounds = subst (λ (ms : List Member). All IsBounded ms) (sym joined.1) (bounded_behind (members_of hosts x) (member_of y h) s.bounds bound);
+      before = subst (All (λ (k : Seat). end_of k ≤ base + g.ram + AREA_BYTES)) (sym (map-append (λ (a : HostGuest). a.guest) hosts (h ∷ [])))
+          (All-push (λ (k : Seat). end_of k ≤ base + g.ram + AREA_BYTES) (seats_of hosts) h.guest
+          (λ i d less. let first = s.before i d less in omega arith) (omega arith));
       aligned = omega arith;
       behind = omega arith;
       room = omega arith;

@@ -1,24 +1,25 @@
 -- A guest whose devices are others.
-use Rattle.std.proofs.Common.{◌≡◌, ℕ, zero, suc, ◌<◌, List, [], ◌∷◌, length, get_or, set, ap, sym, subst, arith}
+use Rattle.std.proofs.Common.{◌≡◌, ℕ, zero, suc, ◌<◌, List, [], ◌∷◌, length, get_or, set, refl, ap, sym, subst, arith}
 use Rattle.std.specs.Prelude.{All}
-use Rattle.std.proofs.lemmas.List.{length-set}
+use Rattle.std.proofs.lemmas.List.{length-set, map-set}
 use Rattle.mb_devices.specs.Devices.{DeviceState}
-use Rattle.def_guests.specs.Seats.{end_of}
+use Rattle.def_guests.specs.Seats.{Seat}
+use Rattle.def_guests.specs.Stages.{AllSeated}
+use Rattle.def_guests.proofs.Independent.{others_stay}
 use Rattle.vm_guest.proofs.Seated.{begun_seated}
 use Rattle.vm_slices.specs.declared.host_guest.HostGuest.{HostGuest}
 use Rattle.vm_slices.specs.Lending.{with_devices, with_devices_at}
 use Rattle.vm_slices.specs.Members.{IsBounded}
-use Rattle.vm_slices.specs.Places.{member_of, members_of, StandFrom, IsHost}
-use Rattle.vm_slices.proofs.Places.{all_behind, with_first}
+use Rattle.vm_slices.specs.Places.{member_of, members_of, seats_of, IsHost}
+use Rattle.vm_slices.proofs.Places.{all_behind, seat_at, seated_at, with_first}
 
-lent_stand : (from : ℕ) (gs : List HostGuest) (i : ℕ) (g : HostGuest) (devices : DeviceState) (ram : List ℕ) → StandFrom from gs ram
-    → i < length gs → g ≡ get_or gs i g → StandFrom from (set gs i (with_devices devices g)) ram
-lent_stand from [] i g devices ram all less is = absurd (omega arith)
-lent_stand from (k ∷ ks) zero g devices ram all less is =
-    subst (λ (a : HostGuest). StandFrom from (with_devices devices a ∷ ks) ram) (sym is)
-    (all.0, begun_seated k.guest ram devices k.guest.steps all.1, all.2)
-lent_stand from (k ∷ ks) (suc i) g devices ram all less is =
-    (all.0, all.1, lent_stand (end_of k.guest) ks i g devices ram all.2 (omega arith) is)
+lent_stand : (gs : List HostGuest) (i : ℕ) (g : HostGuest) (devices : DeviceState) (ram : List ℕ) → AllSeated (seats_of gs) ram
+    → i < length gs → g ≡ get_or gs i g → AllSeated (seats_of (set gs i (with_devices devices g))) ram
+lent_stand gs i g devices ram all less is =
+    let seated = begun_seated g.guest ram devices g.guest.steps (seated_at gs ram i g all less is) in
+    let stay = others_stay (seats_of gs) i g.guest (with_devices devices g).guest ram ram all (seat_at gs i g less is)
+    (record { script = refl; base = refl; size = refl; area = refl }) seated (record { count = refl; below = refl; above = refl }) in
+    subst (λ (seats : List Seat). AllSeated seats ram) (sym (map-set (λ (a : HostGuest). a.guest) gs i (with_devices devices g))) stay.0
 
 -- and takes as many steps
 lent_bounds : (gs : List HostGuest) (i : ℕ) (g : HostGuest) (devices : DeviceState) (ram : List ℕ) → All IsBounded (members_of gs ram) → i < length gs
@@ -37,7 +38,7 @@ pub lent_host : (slice : ℕ) (gs : List HostGuest) (i : ℕ) (g : HostGuest) (d
 lent_host slice gs i g devices ram h less is = record {
   some = h.some;
   few = let count = length-set gs i (with_devices devices g) in let few = h.few in omega arith;
-  stand = lent_stand 65536 gs i g devices ram h.stand less is;
+  stand = lent_stand gs i g devices ram h.stand less is;
   bounds = lent_bounds gs i g devices ram h.bounds less is;
 }
 

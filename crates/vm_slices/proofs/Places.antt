@@ -1,37 +1,35 @@
--- Guests that stand one after the other: one that changes, its turn, and a further one behind them.
+-- Guests that are seated: one that changes, its turn, and a further one behind them.
 use Rattle.std.proofs.Common.{◌≡◌, ◌≢◌, ◌∙◌, ℕ, zero, suc, ◌+◌, ◌≤◌, ◌<◌, List, [], ◌∷◌, ◌++◌, length, get_or, set, drop, map}
 use Rattle.std.proofs.Common.{true, refl, ap, sym, subst, inl, inr, arith, Some}
 use Rattle.std.specs.Prelude.{slice_get, ◌&&◌, All}
 use Rattle.std.proofs.Common.{append_assoc}
-use Rattle.std.proofs.lemmas.List.{append-nil}
+use Rattle.std.proofs.lemmas.List.{append-nil, map-append, map-set}
 use Rattle.mb_instr.specs.declared.registers.Plain.{Plain}
 use Rattle.def_runs.specs.Marks.{trail}
 use Rattle.def_runs.specs.Native.{NativeState}
-use Rattle.def_guests.specs.Turns.{Turned}
-use Rattle.def_guests.specs.Seats.{end_of, IsSame, IsSeated, OnlyWithin}
-use Rattle.def_guests.specs.declared.limits.TheConstants.{MONITOR_BYTES}
+use Rattle.def_guests.specs.Turns.{Guested}
+use Rattle.def_guests.specs.Seats.{Seat, end_of, guested_on, IsSame, IsSeated, OnlyWithin}
+use Rattle.def_guests.specs.Stages.{AllSeated}
 use Rattle.def_guests.specs.Rounds.{Member, left, is_done, all_done, left_of_all, turn_in, members_after, marks_after, exceptions_after}
-use Rattle.def_guests.proofs.Seated.{Alone, alone, turned_alone}
+use Rattle.def_guests.proofs.Independent.{others_stay, seated_at as guest_seated}
+use Rattle.vm_guest.specs.Memory.{OnlyBetween}
+use Rattle.vm_guest.proofs.Joining.{guests_join}
 use Rattle.vm_slices.specs.declared.host_guest.HostGuest.{HostGuest}
 use Rattle.def_guests.proofs.Trails.{trail_append}
 use Rattle.vm_slices.specs.Counting.{AreCounted, HasRoom, RisesBy}
 use Rattle.vm_slices.specs.Members.{after_turn, IsBounded}
-use Rattle.vm_slices.specs.Places.{member_of, members_of, StandFrom, with_member, with_turn, exceptions_at, marks_at}
+use Rattle.vm_slices.specs.Places.{member_of, members_of, seats_of, with_member, with_turn, exceptions_at, marks_at}
 
 -- ---- one of them
 
-pub seated_at : (from : ℕ) (gs : List HostGuest) (ram : List ℕ) (i : ℕ) (g : HostGuest) → StandFrom from gs ram → i < length gs
-    → g ≡ get_or gs i g → IsSeated g.guest ram
-seated_at from [] ram i g all less is = absurd (omega arith)
-seated_at from (k ∷ ks) ram zero g all less is = subst (λ (x : HostGuest). IsSeated x.guest ram) (sym is) all.1
-seated_at from (k ∷ ks) ram (suc i) g all less is = seated_at (end_of k.guest) ks ram i g all.2 (omega arith) is
+pub seat_at : (gs : List HostGuest) (i : ℕ) (g : HostGuest) → i < length gs → g ≡ get_or gs i g → slice_get (seats_of gs) i ≡ Some g.guest
+seat_at [] i g less is = absurd (omega arith)
+seat_at (k ∷ ks) zero g less is = ap (λ (x : HostGuest). Some x.guest) (sym is)
+seat_at (k ∷ ks) (suc i) g less is = seat_at ks i g (omega arith) is
 
-base_behind : (from : ℕ) (gs : List HostGuest) (ram : List ℕ) (i : ℕ) (g : HostGuest) → StandFrom from gs ram → i < length gs
-    → g ≡ get_or gs i g → from ≤ g.guest.base
-base_behind from [] ram i g all less is = absurd (omega arith)
-base_behind from (k ∷ ks) ram zero g all less is = subst (λ (x : HostGuest). from ≤ x.guest.base) (sym is) all.0
-base_behind from (k ∷ ks) ram (suc i) g all less is =
-    let rest = base_behind (end_of k.guest) ks ram i g all.2 (omega arith) is in let first = all.0 in omega arith
+pub seated_at : (gs : List HostGuest) (ram : List ℕ) (i : ℕ) (g : HostGuest) → AllSeated (seats_of gs) ram → i < length gs
+    → g ≡ get_or gs i g → IsSeated g.guest ram
+seated_at gs ram i g all less is = guest_seated (seats_of gs) ram i g.guest all (seat_at gs i g less is)
 
 -- its member
 pub member_at : {A : Type 0} (shown : Member → A) (gs : List HostGuest) (ram : List ℕ) (i : ℕ) (g : HostGuest) → i < length gs
@@ -57,20 +55,29 @@ none_behind (k ∷ ks) ram (suc i) more = none_behind ks ram i (omega arith)
 
 -- ---- one that changes
 
-same_member : (g : HostGuest) (x y : List ℕ) → Alone g.guest x y → member_of y g ≡ member_of x g
-same_member g x y a =
-    ap (λ (t : Turned). (let m : Member = record { script = g.guest.script; bound = g.bound; guest = t.guest; tally = g.guest.tally } in m))
-    (turned_alone g.guest x y [] 0 a.machine a.tables)
+same_member : (g : HostGuest) (x y : List ℕ) → guested_on g.guest y ≡ guested_on g.guest x → member_of y g ≡ member_of x g
+same_member g x y same =
+    ap (λ (t : Guested). (let m : Member = record { script = g.guest.script; bound = g.bound; guest = t; tally = g.guest.tally } in m)) same
 
--- memory changes within a guest that is before them
-behind_stay : (from : ℕ) (ks : List HostGuest) (g : HostGuest) (x y : List ℕ) → StandFrom from ks x → end_of g.guest ≤ from
-    → MONITOR_BYTES ≤ g.guest.base → OnlyWithin g.guest x y → StandFrom from ks y × (members_of ks y ≡ members_of ks x)
-behind_stay from [] g x y all before behind within = (tt, refl)
-behind_stay from (k ∷ ks) g x y all before behind within =
-    let first = all.0 in
-    let a = alone g.guest k.guest x y within (inl (omega arith)) behind all.1 in
-    let rest = behind_stay (end_of k.guest) ks g x y all.2 (omega arith) behind within in
-    ((first, a.seated, rest.0), ap (λ (m : Member). m ∷ members_of ks y) (same_member k x y a) ∙ ap (λ (ms : List Member). member_of x k ∷ ms) rest.1)
+members_stay : (gs : List HostGuest) (x y : List ℕ) → ((j : ℕ) (k : Seat) → slice_get (seats_of gs) j ≡ Some k → guested_on k y ≡ guested_on k x)
+    → members_of gs y ≡ members_of gs x
+members_stay [] x y same = refl
+members_stay (k ∷ ks) x y same =
+    ap (λ (m : Member). m ∷ members_of ks y) (same_member k x y (same zero k.guest refl))
+    ∙ ap (λ (ms : List Member). member_of x k ∷ ms) (members_stay ks x y (λ j. same (suc j)))
+
+members_with : (change : Member → Member) (gs : List HostGuest) (i : ℕ) (g h : HostGuest) (x y : List ℕ) → i < length gs → g ≡ get_or gs i g
+    → member_of y h ≡ change (member_of x g)
+    → ((j : ℕ) (k : Seat) → j ≢ i → slice_get (seats_of gs) j ≡ Some k → guested_on k y ≡ guested_on k x)
+    → members_of (set gs i h) y ≡ with_member i change (members_of gs x)
+members_with change [] i g h x y less is own others = absurd (omega arith)
+members_with change (k ∷ ks) zero g h x y less is own others =
+    ap (λ (m : Member). m ∷ members_of ks y) (own ∙ ap (λ (a : HostGuest). change (member_of x a)) is)
+    ∙ ap (λ (ms : List Member). change (member_of x k) ∷ ms) (members_stay ks x y (λ j a. others (suc j) a (λ e. omega arith)))
+members_with change (k ∷ ks) (suc i) g h x y less is own others =
+    ap (λ (m : Member). m ∷ members_of (set ks i h) y) (same_member k x y (others zero k.guest (λ e. omega arith) refl))
+    ∙ ap (λ (ms : List Member). member_of x k ∷ ms)
+    (members_with change ks i g h x y (omega arith) is own (λ j a ne. others (suc j) a (λ e. ne (omega arith))))
 
 -- what is known of a guest that changes on its own part of the board
 pub record HasChanged (change : Member → Member) (g h : HostGuest) (x y : List ℕ) : Type 0 where
@@ -79,38 +86,17 @@ pub record HasChanged (change : Member → Member) (g h : HostGuest) (x y : List
   pub seated : IsSeated h.guest y
   pub within : OnlyWithin g.guest x y
 
-changed_one : (from : ℕ) (change : Member → Member) (gs : List HostGuest) (i : ℕ) (g h : HostGuest) (x y : List ℕ) → StandFrom from gs x
-    → i < length gs → g ≡ get_or gs i g → MONITOR_BYTES ≤ from → HasChanged change g h x y
-    → StandFrom from (set gs i h) y × (members_of (set gs i h) y ≡ with_member i change (members_of gs x))
-changed_one from change [] i g h x y all less is behind t = absurd (omega arith)
-changed_one from change (k ∷ ks) zero g h x y all less is behind t =
-    let base = t.same.base in
-    let size = t.same.size in
-    let e : g ≡ k = is in
-    let first : from ≤ g.guest.base = subst (λ (a : HostGuest). from ≤ a.guest.base) (sym e) all.0 in
-    let after : StandFrom (end_of g.guest) ks x = subst (λ (a : HostGuest). StandFrom (end_of a.guest) ks x) (sym e) all.2 in
-    let rest = behind_stay (end_of g.guest) ks g x y after (omega arith) (omega arith) t.within in
-    let end : end_of g.guest ≡ end_of h.guest = omega arith in (
-      (omega arith, t.seated, subst (λ (n : ℕ). StandFrom n ks y) end rest.0),
-      ap (λ (m : Member). m ∷ members_of ks y) (t.member ∙ ap (λ (a : HostGuest). change (member_of x a)) e)
-          ∙ ap (λ (ms : List Member). change (member_of x k) ∷ ms) rest.1,
-    )
-changed_one from change (k ∷ ks) (suc i) g h x y all less is behind t =
-    let first = all.0 in
-    let after = base_behind (end_of k.guest) ks x i g all.2 (omega arith) is in
-    let a = alone g.guest k.guest x y t.within (inr after) (omega arith) all.1 in
-    let rest = changed_one (end_of k.guest) change ks i g h x y all.2 (omega arith) is (omega arith) t in (
-      (first, a.seated, rest.0),
-      ap (λ (m : Member). m ∷ members_of (set ks i h) y) (same_member k x y a)
-          ∙ ap (λ (ms : List Member). member_of x k ∷ ms) rest.1,
-    )
-
 -- the guest at a place
-pub changed_at : (change : Member → Member) (gs : List HostGuest) (i : ℕ) (r h : HostGuest) (x y : List ℕ) → StandFrom MONITOR_BYTES gs x
+pub changed_at : (change : Member → Member) (gs : List HostGuest) (i : ℕ) (r h : HostGuest) (x y : List ℕ) → AllSeated (seats_of gs) x
     → i < length gs → r ≡ get_or gs i r → HasChanged change (get_or gs i r) h x y
-    → StandFrom MONITOR_BYTES (set gs i h) y × (members_of (set gs i h) y ≡ with_member i change (members_of gs x))
+    → AllSeated (seats_of (set gs i h)) y × (members_of (set gs i h) y ≡ with_member i change (members_of gs x))
 changed_at change gs i r h x y all less is t =
-    changed_one MONITOR_BYTES change gs i (get_or gs i r) h x y all less (ap (λ (g : HostGuest). get_or gs i g) is) (omega arith) t
+    let g = get_or gs i r in
+    let here : g ≡ get_or gs i g = ap (λ (a : HostGuest). get_or gs i a) is in
+    let stay = others_stay (seats_of gs) i g.guest h.guest x y all (seat_at gs i g less here) t.same t.seated t.within in (
+      subst (λ (seats : List Seat). AllSeated seats y) (sym (map-set (λ (a : HostGuest). a.guest) gs i h)) stay.0,
+      members_with change gs i g h x y less here t.member stay.1,
+    )
 
 -- every other member is as it was
 pub other_stays : (slice place other : ℕ) (ms : List Member) → other ≢ place → slice_get (with_turn slice place ms) other ≡ slice_get ms other
@@ -322,32 +308,11 @@ turn_of_one slice (suc i) (k ∷ ks) g x old new less is bounds own =
 
 -- ---- a further guest
 
--- where the last of them ends
-abbrev pub end_of_all : ℕ → List HostGuest → ℕ
-end_of_all from [] = from
-end_of_all from (g ∷ guests) = end_of_all (end_of g.guest) guests
-
-end_behind : (from : ℕ) (gs : List HostGuest) (ram : List ℕ) → StandFrom from gs ram → from ≤ end_of_all from gs
-end_behind from [] ram all = omega arith
-end_behind from (k ∷ ks) ram all =
-    let rest = end_behind (end_of k.guest) ks ram all.2 in let first = all.0 in omega arith
-
--- the guests before it, and it
-pub record Further (from : ℕ) (gs : List HostGuest) (h : HostGuest) (x y : List ℕ) : Type 0 where
-  pub stand : StandFrom from (gs ++ h ∷ []) y
-  pub members : members_of (gs ++ h ∷ []) y ≡ members_of gs x ++ member_of y h ∷ []
-  pub end : end_of_all from (gs ++ h ∷ []) ≡ end_of h.guest
-
-pub further : (from : ℕ) (gs : List HostGuest) (h : HostGuest) (x y : List ℕ) → StandFrom from gs x → end_of_all from gs ≤ h.guest.base
-    → MONITOR_BYTES ≤ h.guest.base → IsSeated h.guest y → OnlyWithin h.guest x y → Further from gs h x y
-further from [] h x y all before behind seated within = record { stand = (before, seated, tt); members = refl; end = refl }
-further from (k ∷ ks) h x y all before behind seated within =
-    let last = end_behind (end_of k.guest) ks x all.2 in
-    let a = alone h.guest k.guest x y within (inr (omega arith)) behind all.1 in
-    let rest = further (end_of k.guest) ks h x y all.2 before behind seated within in
-    record {
-      stand = (all.0, a.seated, rest.stand);
-      members = ap (λ (m : Member). m ∷ members_of (ks ++ h ∷ []) y) (same_member k x y a)
-          ∙ ap (λ (ms : List Member). member_of x k ∷ ms) rest.members;
-      end = rest.end;
-    }
+pub further : (gs : List HostGuest) (h : HostGuest) (x y : List ℕ) → AllSeated (seats_of gs) x
+    → All (λ (g : Seat). end_of g ≤ h.guest.base) (seats_of gs) → IsSeated h.guest y → OnlyBetween h.guest.base (end_of h.guest) x y
+    → AllSeated (seats_of (gs ++ h ∷ [])) y × (members_of (gs ++ h ∷ []) y ≡ members_of gs x ++ member_of y h ∷ [])
+further gs h x y all before seated within =
+    let joined = guests_join (seats_of gs) h.guest x y all seated within (λ i d less. inl (before i d less)) in (
+      subst (λ (seats : List Seat). AllSeated seats y) (sym (map-append (λ (a : HostGuest). a.guest) gs (h ∷ []))) joined.0,
+      map-append (member_of y) gs (h ∷ []) ∙ ap (λ (ms : List Member). ms ++ member_of y h ∷ []) (members_stay gs x y joined.1),
+    )

@@ -1,8 +1,8 @@
 -- Guests of a session on a board.
 use Rattle.std.specs.Prelude.{ℕ, ◌≤◌, List, [], ◌∷◌, length, map, zero, suc, All}
 use Rattle.mb_instr.specs.declared.registers.Plain.{Plain}
-use Rattle.def_guests.specs.Seats.{guested_on, end_of, IsSeated}
-use Rattle.def_guests.specs.declared.limits.TheConstants.{MONITOR_BYTES}
+use Rattle.def_guests.specs.Seats.{Seat, guested_on}
+use Rattle.def_guests.specs.Stages.{AllSeated}
 use Rattle.mb_script.specs.declared.sizes.TheConstants.{MOST_GUESTS}
 use Rattle.def_guests.specs.Rounds.{Member, turn_in}
 use Rattle.vm_slices.specs.declared.host_guest.HostGuest.{HostGuest}
@@ -30,16 +30,15 @@ pub record HostState : Type 0 where
 abbrev pub members_in : HostState → List Member
 members_in host = members_of host.guests host.ram
 
--- They stand one after the other from a place on.
-abbrev pub StandFrom : ℕ → List HostGuest → List ℕ → Type 0
-StandFrom from [] ram = Unit {0}
-StandFrom from (g ∷ guests) ram = (from ≤ g.guest.base) × IsSeated g.guest ram × StandFrom (end_of g.guest) guests ram
+-- the guests but for their bounds
+abbrev pub seats_of : List HostGuest → List Seat
+seats_of guests = map (λ (g : HostGuest). g.guest) guests
 
--- what holds of a host: turns have steps, all guests stand behind the monitor's bytes, and each takes a number of steps
+-- what holds of a host: turns have steps, all guests are seated apart from one another, and each takes a number of steps
 pub record IsHost (slice : ℕ) (guests : List HostGuest) (ram : List ℕ) : Type 0 where
   pub some : 1 ≤ slice
   pub few : length guests ≤ MOST_GUESTS
-  pub stand : StandFrom MONITOR_BYTES guests ram
+  pub stand : AllSeated (seats_of guests) ram
   pub bounds : All IsBounded (members_of guests ram)
 
 -- the marks of the turn of a round of the member at a place

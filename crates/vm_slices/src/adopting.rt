@@ -3,10 +3,10 @@
 ghost use Rattle.std.specs.Prelude.{◌≡◌, ◌+◌, ◌-◌, ◌<◌, ◌≤◌, length, slice_get, IfSome, All};
 ghost use Rattle.mb_saved.specs.Saved.{IsLawful};
 ghost use Rattle.def_guests.specs.Seats.{IsSame, IsSeated, OnlyWithin};
-ghost use Rattle.def_guests.specs.declared.limits.TheConstants.{MONITOR_BYTES};
+ghost use Rattle.def_guests.specs.Stages.{AllSeated};
 ghost use Rattle.vm_slices.specs.Adopting.{begun, bounded, CanAdopt};
 ghost use Rattle.vm_slices.specs.Members.{numbered, IsBounded};
-ghost use Rattle.vm_slices.specs.Places.{member_of, members_in, members_of, with_member, StandFrom};
+ghost use Rattle.vm_slices.specs.Places.{member_of, members_in, members_of, seats_of, with_member};
 
 use crate::host::Host;
 use crate::host_guest::HostGuest;
@@ -32,13 +32,13 @@ impl HostGuest {
 /// A guest that has taken no step becomes a saved one. Every other guest stays as it is.
 fn adopt(board: &mut Board, guests: &mut [HostGuest], place: usize, saved: &SavedGuest)
     requires place { place < length guests.old }
-    requires stand { StandFrom MONITOR_BYTES guests.old board.old.world.ram }
+    requires stand { AllSeated (seats_of guests.old) board.old.world.ram }
     requires bounds { All IsBounded (members_of guests.old board.old.world.ram) }
     requires can { IfSome (slice_get (members_of guests.old board.old.world.ram) place) (CanAdopt saved.now) }
     requires lawful { IsLawful saved.now }
     ensures adopted { members_of guests.new board.new.world.ram
         ≡ with_member place (begun saved.now) (members_of guests.old board.old.world.ram) }
-    ensures stand { StandFrom MONITOR_BYTES guests.new board.new.world.ram }
+    ensures stand { AllSeated (seats_of guests.new) board.new.world.ram }
     ensures bounds { All IsBounded (members_of guests.new board.new.world.ram) }
 {
     guests[place].adopt(board, saved);
@@ -47,11 +47,11 @@ fn adopt(board: &mut Board, guests: &mut [HostGuest], place: usize, saved: &Save
 /// A guest takes so many steps at most. Every other guest stays as it is.
 fn set_bound(board: &Board, guests: &mut [HostGuest], place: usize, steps: u32)
     requires place { place < length guests.old }
-    requires stand { StandFrom MONITOR_BYTES guests.old board.now.world.ram }
+    requires stand { AllSeated (seats_of guests.old) board.now.world.ram }
     requires bounds { All IsBounded (members_of guests.old board.now.world.ram) }
     ensures bound { members_of guests.new board.now.world.ram
         ≡ with_member place (bounded steps) (members_of guests.old board.now.world.ram) }
-    ensures stand { StandFrom MONITOR_BYTES guests.new board.now.world.ram }
+    ensures stand { AllSeated (seats_of guests.new) board.now.world.ram }
     ensures bounds { All IsBounded (members_of guests.new board.now.world.ram) }
 {
     guests[place].bound = steps;

@@ -2,8 +2,8 @@
 
 ghost use Rattle.std.specs.Prelude.{◌≡◌, ◌+◌, ◌-◌, ◌^◌, ◌<◌, ◌≤◌, length, map, true, Some, IfOk, IfErr, IfSome, All};
 ghost use Rattle.mb_model.specs.Seen.{seen_of};
-ghost use Rattle.def_guests.specs.declared.limits.TheConstants.{MONITOR_BYTES};
 ghost use Rattle.def_guests.specs.Rounds.{all_done, left_of_all, members_after, marks_after, exceptions_after};
+ghost use Rattle.def_guests.specs.Stages.{AllSeated};
 ghost use Rattle.vm_guest.specs.Session.{IsGuest, IsSession};
 ghost use Rattle.vm_slices.specs.declared.open_fault.OpenFault.TheVariants as open_fault;
 ghost use Rattle.vm_slices.specs.Fit.{need_of, Fits};
@@ -15,7 +15,7 @@ ghost use Rattle.vm_slices.specs.Counting.{AreCounted, HasRoom, RisesBy};
 ghost use Rattle.vm_slices.specs.Members.{member_at_start, machine_at_end, tally_at_end, after_rounds, IsBounded};
 ghost use Rattle.vm_slices.specs.Members.{machines_of, tallies_of, devices_of, shown_of, numbered};
 ghost use Rattle.vm_slices.specs.Orders.{after_order, each_given, machines_given};
-ghost use Rattle.vm_slices.specs.Places.{exceptions_at, marks_at, members_in, members_of, with_turn, StandFrom};
+ghost use Rattle.vm_slices.specs.Places.{exceptions_at, marks_at, members_in, members_of, seats_of, with_turn};
 
 use crate::fit::judge_fit;
 use crate::host_guest::HostGuest;
@@ -63,7 +63,7 @@ fn prepare_guests(
     requires small { length board.old.world.ram < 2 ^ 32 }
     ensures members { IfOk result (λ hosts. members_of hosts.items board.new.world.ram
         ≡ map member_at_start guests.items) }
-    ensures stand { IfOk result (λ hosts. StandFrom MONITOR_BYTES hosts.items board.new.world.ram) }
+    ensures stand { IfOk result (λ hosts. AllSeated (seats_of hosts.items) board.new.world.ram) }
     ensures bounds { IfOk result (λ hosts. All IsBounded (members_of hosts.items board.new.world.ram)) }
 {
     let mut prepared = Vec::with_capacity(alloc, guests.len())?;

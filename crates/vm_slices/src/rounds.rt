@@ -1,11 +1,11 @@
 //! Rounds: in each, every guest takes its turn.
 
 ghost use Rattle.std.specs.Prelude.{◌≡◌, ◌≢◌, ℕ, ◌<◌, length, slice_get, All};
-ghost use Rattle.def_guests.specs.declared.limits.TheConstants.{MONITOR_BYTES};
 ghost use Rattle.def_guests.specs.Rounds.{all_done, left_of_all, members_after, marks_after, exceptions_after};
+ghost use Rattle.def_guests.specs.Stages.{AllSeated};
 ghost use Rattle.vm_slices.specs.Counting.{AreCounted, HasRoom, RisesBy};
 ghost use Rattle.vm_slices.specs.Members.{IsBounded};
-ghost use Rattle.vm_slices.specs.Places.{members_of, with_turn, exceptions_at, marks_at, StandFrom};
+ghost use Rattle.vm_slices.specs.Places.{members_of, seats_of, with_turn, exceptions_at, marks_at};
 
 use crate::host_guest::HostGuest;
 use mb_board::{Board, Native};
@@ -19,7 +19,7 @@ pub(crate) fn take_turn(
     native: &mut Native,
 )
     requires place { place < length guests.old }
-    requires stand { StandFrom MONITOR_BYTES guests.old board.old.world.ram }
+    requires stand { AllSeated (seats_of guests.old) board.old.world.ram }
     requires bounds { All IsBounded (members_of guests.old board.old.world.ram) }
     requires room { HasRoom (left_of_all (members_of guests.old board.old.world.ram)) native.old }
     ensures turn { members_of guests.new board.new.world.ram
@@ -29,7 +29,7 @@ pub(crate) fn take_turn(
     ensures counts { AreCounted (members_of guests.old board.old.world.ram) (members_of guests.new board.new.world.ram)
         (marks_at slice place (members_of guests.old board.old.world.ram))
         (exceptions_at slice place (members_of guests.old board.old.world.ram)) native.old native.new }
-    ensures stand { StandFrom MONITOR_BYTES guests.new board.new.world.ram }
+    ensures stand { AllSeated (seats_of guests.new) board.new.world.ram }
     ensures bounds { All IsBounded (members_of guests.new board.new.world.ram) }
     ensures rises { RisesBy (left_of_all (members_of guests.old board.old.world.ram))
         (left_of_all (members_of guests.new board.new.world.ram)) native.old native.new }
@@ -44,7 +44,7 @@ pub(crate) fn take_round(
     slice: u32,
     native: &mut Native,
 )
-    requires stand { StandFrom MONITOR_BYTES guests.old board.old.world.ram }
+    requires stand { AllSeated (seats_of guests.old) board.old.world.ram }
     requires bounds { All IsBounded (members_of guests.old board.old.world.ram) }
     requires room { HasRoom (left_of_all (members_of guests.old board.old.world.ram)) native.old }
     ensures members { members_of guests.new board.new.world.ram
@@ -52,7 +52,7 @@ pub(crate) fn take_round(
     ensures counts { AreCounted (members_of guests.old board.old.world.ram) (members_of guests.new board.new.world.ram)
         (marks_after slice (members_of guests.old board.old.world.ram))
         (exceptions_after slice (members_of guests.old board.old.world.ram)) native.old native.new }
-    ensures stand { StandFrom MONITOR_BYTES guests.new board.new.world.ram }
+    ensures stand { AllSeated (seats_of guests.new) board.new.world.ram }
     ensures bounds { All IsBounded (members_of guests.new board.new.world.ram) }
     ensures rises { RisesBy (left_of_all (members_of guests.old board.old.world.ram))
         (left_of_all (members_of guests.new board.new.world.ram)) native.old native.new }
@@ -64,7 +64,7 @@ pub(crate) fn take_round(
 
 /// Whether all guests have done their steps, or are halted or off.
 pub(crate) fn are_done(board: &Board, guests: &[HostGuest]) -> bool
-    requires { StandFrom MONITOR_BYTES guests.now board.now.world.ram }
+    requires { AllSeated (seats_of guests.now) board.now.world.ram }
     ensures { result ≡ all_done (members_of guests.now board.now.world.ram) }
 {
     for guest in guests {

@@ -1,12 +1,12 @@
 use Rattle.std.proofs.Common.{◌≡◌, List, get_or, set, ap, sym, subst}
 use Rattle.std.specs.Prelude.{All}
 use Rattle.def_guests.specs.Seats.{IsSeated}
-use Rattle.def_guests.specs.declared.limits.TheConstants.{MONITOR_BYTES}
+use Rattle.def_guests.specs.Stages.{AllSeated}
 use Rattle.def_guests.specs.Rounds.{Member}
 use Rattle.vm_slices.specs.declared.host_guest.HostGuest.{HostGuest}
 use Rattle.vm_slices.specs.Adopting.{begun, CanAdopt}
 use Rattle.vm_slices.specs.Members.{IsBounded}
-use Rattle.vm_slices.specs.Places.{member_of, members_of, with_member, StandFrom}
+use Rattle.vm_slices.specs.Places.{member_of, members_of, with_member, seats_of}
 use Rattle.vm_slices.proofs.Adopted.{holds_at}
 use Rattle.vm_slices.proofs.Places.{bounded_with, changed_at, member_bounded, seated_at}
 use Rattle.vm_slices.proofs.adopting.adopt.Goals as goal
@@ -16,7 +16,7 @@ adopt-requires-clause-seated c =
     let r = c.index-guests-place.result in
     let ram = c.args.board.now.world.ram in
     subst (λ (g : HostGuest). IsSeated g.guest ram) c.index-guests-place.is
-    (seated_at MONITOR_BYTES c.args.guests.now ram c.args.place r c.requires.stand c.requires.place c.index-guests-place.is)
+    (seated_at c.args.guests.now ram c.args.place r c.requires.stand c.requires.place c.index-guests-place.is)
 
 pub adopt-requires-clause-can : goal.adopt-requires-clause-can
 adopt-requires-clause-can c =
@@ -25,7 +25,7 @@ adopt-requires-clause-can c =
     subst (λ (g : HostGuest). CanAdopt c.args.saved.now (member_of ram g)) c.index-guests-place.is
     (holds_at (CanAdopt c.args.saved.now) c.args.guests.now ram c.args.place r c.requires.place c.index-guests-place.is c.requires.can)
 
-changed : (c : goal.After-adopt) → StandFrom MONITOR_BYTES (set c.args.guests.now c.args.place c.adopt.new.self) c.adopt.new.board.world.ram
+changed : (c : goal.After-adopt) → AllSeated (seats_of (set c.args.guests.now c.args.place c.adopt.new.self)) c.adopt.new.board.world.ram
     × (members_of (set c.args.guests.now c.args.place c.adopt.new.self) c.adopt.new.board.world.ram
     ≡ with_member c.args.place (begun c.args.saved.now) (members_of c.args.guests.now c.args.board.now.world.ram))
 changed c =

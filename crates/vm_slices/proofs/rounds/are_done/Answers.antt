@@ -1,6 +1,5 @@
 use Rattle.std.proofs.Common.{◌≡◌, ◌∙◌, ◌+◌, Bool, true, false, drop, ap, sym, arith}
 use Rattle.std.specs.Prelude.{◌&&◌}
-use Rattle.def_guests.specs.declared.limits.TheConstants.{MONITOR_BYTES}
 use Rattle.def_guests.specs.Rounds.{is_done, all_done}
 use Rattle.vm_slices.specs.Places.{member_of, members_of}
 use Rattle.vm_slices.proofs.Places.{seated_at, done_from, none_behind}
@@ -8,7 +7,7 @@ use Rattle.vm_slices.proofs.rounds.are_done.Goals as goal
 
 pub is_done-requires : goal.is_done-requires
 is_done-requires c =
-    seated_at MONITOR_BYTES c.args.guests.now c.args.board.now.world.ram c.loop-guest.guest-index c.guest-item.result c.requires
+    seated_at c.args.guests.now c.args.board.now.world.ram c.loop-guest.guest-index c.guest-item.result c.requires
     c.loop-guest-test.true c.guest-item.is
 
 pub loop-guest-preserved : goal.loop-guest-preserved

@@ -1,10 +1,10 @@
 use Rattle.std.proofs.Common.{◌≡◌}
 use Rattle.std.specs.Prelude.{All}
-use Rattle.def_guests.specs.declared.limits.TheConstants.{MONITOR_BYTES}
 use Rattle.def_guests.specs.Rounds.{left_of_all}
+use Rattle.def_guests.specs.Stages.{AllSeated}
 use Rattle.vm_slices.specs.Counting.{AreCounted, RisesBy}
 use Rattle.vm_slices.specs.Members.{IsBounded}
-use Rattle.vm_slices.specs.Places.{members_of, StandFrom}
+use Rattle.vm_slices.specs.Places.{members_of, seats_of}
 use Rattle.vm_slices.proofs.Places.{first_turned, first_exceptions, first_marks}
 use Rattle.vm_slices.proofs.rounds.take_round.Given as goal
 
@@ -17,5 +17,5 @@ invariant-loop-place l = record {
   bounds : All IsBounded (members_of l.guests l.board.world.ram);
   rises : RisesBy (left_of_all (members_of l.initial.guests l.initial.board.world.ram)) (left_of_all (members_of l.guests l.board.world.ram))
       l.initial.native l.native;
-  stand : StandFrom MONITOR_BYTES l.guests l.board.world.ram;
+  stand : AllSeated (seats_of l.guests) l.board.world.ram;
 }

@@ -1,12 +1,12 @@
 use Rattle.std.proofs.Common.{◌≡◌, ◌∙◌, List, get_or, set, ap, sym, subst}
 use Rattle.std.specs.Prelude.{slice_get, All}
 use Rattle.def_guests.specs.Seats.{IsSeated}
-use Rattle.def_guests.specs.declared.limits.TheConstants.{MONITOR_BYTES}
+use Rattle.def_guests.specs.Stages.{AllSeated}
 use Rattle.def_guests.specs.Rounds.{Member, left, left_of_all}
 use Rattle.vm_slices.specs.declared.host_guest.HostGuest.{HostGuest}
 use Rattle.vm_slices.specs.Counting.{AreCounted, HasRoom, RisesBy}
 use Rattle.vm_slices.specs.Members.{after_turn, IsBounded}
-use Rattle.vm_slices.specs.Places.{member_of, members_of, exceptions_at, marks_at, with_turn, StandFrom}
+use Rattle.vm_slices.specs.Places.{member_of, members_of, exceptions_at, marks_at, with_turn, seats_of}
 use Rattle.vm_slices.proofs.Places.{Turn, own_by, seated_at, member_room, changed_at, turn_of_one, other_stays}
 use Rattle.vm_slices.proofs.rounds.take_turn.Goals as goal
 
@@ -15,7 +15,7 @@ take_turn-requires-clause-seated c =
     let r = c.index-guests-place.result in
     let ram = c.args.board.now.world.ram in
     subst (λ (g : HostGuest). IsSeated g.guest ram) c.index-guests-place.is
-    (seated_at MONITOR_BYTES c.args.guests.now ram c.args.place r c.requires.stand c.requires.place c.index-guests-place.is)
+    (seated_at c.args.guests.now ram c.args.place r c.requires.stand c.requires.place c.index-guests-place.is)
 
 pub take_turn-requires-clause-room : goal.take_turn-requires-clause-room
 take_turn-requires-clause-room c =
@@ -37,7 +37,7 @@ turned c =
     (own_by c.args.slice (member_of x g) (member_of c.take_turn.new.board.world.ram c.take_turn.new.self) c.args.native.now c.take_turn.new.native
     e.turn e.counts e.rises)
 
-stands : (c : goal.After-take_turn) → StandFrom MONITOR_BYTES (set c.args.guests.now c.args.place c.take_turn.new.self) c.take_turn.new.board.world.ram
+stands : (c : goal.After-take_turn) → AllSeated (seats_of (set c.args.guests.now c.args.place c.take_turn.new.self)) c.take_turn.new.board.world.ram
     × (members_of (set c.args.guests.now c.args.place c.take_turn.new.self) c.take_turn.new.board.world.ram
     ≡ with_turn c.args.slice c.args.place (members_of c.args.guests.now c.args.board.now.world.ram))
 stands c =

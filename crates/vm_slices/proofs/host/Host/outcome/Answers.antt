@@ -1,7 +1,6 @@
 use Rattle.std.proofs.Common.{◌≡◌, ◌∙◌, ◌-◌, ◌<◌, Some, length, ap, sym, arith}
 use Rattle.std.proofs.lemmas.List.{length-map}
 use Rattle.def_machine.specs.Machine.{seen_machine}
-use Rattle.def_guests.specs.declared.limits.TheConstants.{MONITOR_BYTES}
 use Rattle.def_guests.specs.Rounds.{Member}
 use Rattle.vm_slices.specs.Places.{HostState, members_in}
 use Rattle.vm_slices.specs.Members.{shown_of, numbered}
@@ -18,7 +17,7 @@ outcome-requires c =
     let first = c.requires.0 in
     let last = c.requires.1 in
     let less : c.args.guest - 1 < length gs = omega arith in
-    let seated = seated_at MONITOR_BYTES gs ram (c.args.guest - 1) c.index-host_guest.result.now c.self.invariant.stand less c.index-host_guest.ensures in
+    let seated = seated_at gs ram (c.args.guest - 1) c.index-host_guest.result.now c.self.invariant.stand less c.index-host_guest.ensures in
     let inside = seated.inside in omega arith
 
 pub returns-clause-shown : goal.returns-clause-shown
