@@ -1,9 +1,9 @@
 //! Words, what they decode to, and what that is encoded to again.
 
+use crate::read_back::read_back;
 use mb_decode::{Decoded, decode, spellings};
 use mb_encode::encode;
 use mb_instr::{family_of, is_privileged};
-use mb_round::read_back;
 use mb_table::FirstWords;
 use std::test::Fail;
 

@@ -1,11 +1,11 @@
 //! Instructions, and their words.
 
+use crate::read_back::read_back;
 use crate::spelled::spell;
 use mb_encode::{Unencodable, encode};
 use mb_instr::{
     Arith, Branch, Condition, Ea, Exchange, Ext, FieldKind, Flow, Instr, Move, Size, System,
 };
-use mb_round::read_back;
 use std::alloc::AllocError;
 
 /// Each shape of a row, with words that the manual's encodings and a disassembler of GNU say (all rows are in

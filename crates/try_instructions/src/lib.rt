@@ -2,11 +2,15 @@
 #![tactic(auto)]
 
 #[cfg(test)]
+mod census;
+#[cfg(test)]
 mod decoding;
 #[cfg(test)]
 mod encoding;
 #[cfg(test)]
 mod mnemonics;
+#[cfg(test)]
+mod read_back;
 #[cfg(test)]
 mod sources;
 #[cfg(test)]

@@ -1,7 +1,7 @@
 use Rattle.std.proofs.Common.{◌∙◌, ap}
 use Rattle.mb_decode.specs.Decodes.{decode_of}
 use Rattle.mb_decode.proofs.Table.{read_back}
-use Rattle.mb_round.proofs.read_back.Goals as goal
+use Rattle.try_instructions.proofs.read_back.read_back.Goals as goal
 
 pub returns-in-Ok-clause-whole : goal.returns-in-Ok-clause-whole
 returns-in-Ok-clause-whole c =

@@ -1,0 +1,39 @@
+//! What is written is read again.
+
+ghost use Rattle.std.specs.Prelude.{◌≡◌, ℕ, List, length, IfOk, OnErr};
+ghost use Rattle.mb_instr.specs.Codes.{IsInstr, Codes};
+ghost use Rattle.mb_decode.specs.declared.front.Decoded.TheVariants.{Whole};
+
+use mb_decode::{Decoded, decode};
+use mb_encode::{Unencodable, encode};
+use mb_instr::Instr;
+
+/// Reads the words that spell the instruction: the instruction itself, with the number of its words. The error says
+/// that no row of the table has the value.
+pub fn read_back(i: &Instr) -> Result<Decoded, Unencodable>
+    ensures whole { IfOk result (λ d. (w : List ℕ) × Codes i.now w × (d ≡ Whole i.now (length w))) }
+    ensures none { OnErr result (IsInstr i.now → ⊥) }
+{
+    match encode(i) {
+        Ok(words) => Ok(decode(words.as_slice())),
+        Err(none) => Err(none),
+    }
+}
+
+/// Each instruction that a first word begins, with words of zeros behind it, is written as it was read.
+#[test]
+fn each_first_word_is_written_again(rt: HostRuntime) -> Result<(), Unencodable> {
+    for first in 0..=u16::MAX {
+        let words = [first, 0, 0, 0, 0, 0, 0, 0, 0, 0, 0];
+        let decoded = decode(&words);
+        if let Decoded::Whole(instruction, length) = decoded {
+            let written = encode(&instruction)?;
+            assert!(rt;
+                words.get(..usize::from(length)) == Some(written.as_slice()),
+                "at {first:04x}"
+            );
+            assert!(rt; read_back(&instruction) == Ok(decoded), "at {first:04x}");
+        }
+    }
+    Ok(())
+}
