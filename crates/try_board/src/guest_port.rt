@@ -6,7 +6,7 @@ ghost use Rattle.vm_shadow.specs.Area.{Maps};
 ghost use Rattle.vm_shadow.specs.Mapped.{shadowed};
 ghost use Rattle.vm_port.specs.Own.{IsPlaced};
 
-use crate::memory::Bytes;
+use crate::memory::{Bytes, SPACES};
 use Space::{Super, User};
 use mb_devices::Devices;
 use mb_model::Cpu;
@@ -182,7 +182,7 @@ fn pages_are_put_and_dropped(rt: HostRuntime) {
     assert!(rt; guest.read(Super, 0x5004) == Some(7));
     // a test drops its page
     let mut guest = Guest::translated(rt.alloc()).expect(&rt, "memory");
-    for space in [User, Super] {
+    for &space in &SPACES {
         assert!(rt; guest.read(space, 0x5000) == Some(0));
     }
     assert!(rt; guest.test(Super, 0x5FFC) == 0x5001);
@@ -249,7 +249,7 @@ fn flushes_and_written_registers_drop_pages(rt: HostRuntime) {
         assert!(rt; names_page(what));
         let mut guest = Guest::translated(rt.alloc()).expect(&rt, "memory");
         guest.set(PAGES + 24, 0x6401);
-        for space in [User, Super] {
+        for &space in &SPACES {
             assert!(rt; guest.read(space, 0x5000) == Some(0));
             assert!(rt; guest.read(space, 0x6000) == Some(0));
         }
@@ -264,12 +264,12 @@ fn flushes_and_written_registers_drop_pages(rt: HostRuntime) {
     }
     for &(which, value, left) in &REGISTERS {
         let mut guest = Guest::translated(rt.alloc()).expect(&rt, "memory");
-        for space in [User, Super] {
+        for &space in &SPACES {
             assert!(rt; guest.read(space, 0x5000) == Some(0));
             assert!(rt; guest.find(space, 5) == Some((21, false)));
         }
         guest.set_mmu(which, value);
-        for space in [User, Super] {
+        for &space in &SPACES {
             assert!(rt; guest.find(space, 5) == left, "{which:?}");
         }
     }
@@ -294,7 +294,7 @@ fn a_compare_reads_what_its_own_search_marks(rt: HostRuntime) {
 
 #[test]
 fn a_full_area_goes_whole(rt: HostRuntime) {
-    for space in [User, Super] {
+    for &space in &SPACES {
         let mut guest = Guest::translated(rt.alloc()).expect(&rt, "memory");
         // 126 tables stand then: one of pointers, and 125 of pages
         for index in 0..125u32 {

@@ -2,11 +2,15 @@
 
 ghost use Rattle.std.specs.Prelude.{◌≡◌, length};
 
+use mb_port::Space;
 use mb_walk::{Ram, long_at, set_long_at, size_of};
 use std::alloc::Global;
 
 /// How many bytes it has.
 pub(crate) const SIZE: u32 = 0x3_0000;
+
+/// Both spaces.
+pub(crate) static SPACES: [Space; 2] = [Space::User, Space::Super];
 
 #[derive(Drop)]
 pub(crate) struct Bytes {

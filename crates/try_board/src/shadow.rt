@@ -3,7 +3,7 @@
 ghost use Rattle.std.specs.Prelude.{◌<◌, ◌^◌};
 ghost use Rattle.vm_shadow.specs.Area.{Maps};
 
-use crate::memory::{Bytes, SIZE};
+use crate::memory::{Bytes, SIZE, SPACES};
 use Space::{Super, User};
 use mb_model::{Kept, PAGE_SIZE};
 use mb_port::Space;
@@ -62,7 +62,7 @@ impl Guest {
 /// further one clears the area whole.
 #[test]
 fn a_full_area_is_cleared_whole(rt: HostRuntime) {
-    for space in [User, Super] {
+    for &space in &SPACES {
         let mut guest = Guest::new(rt.alloc()).expect(&rt, "memory");
         for k in 0..125u32 {
             assert!(rt; !guest.fill(space, 64 * k, k, true));

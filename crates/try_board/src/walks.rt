@@ -130,15 +130,19 @@ static BIG_WALKS: [(u32, bool, u32, Option<(u32, u32, u32)>, u32); 5] = [
     (0x1456, false, 0x0000_A001, Some((1, 0xA, 0x0000_A001)), 0x0000_A009),
 ];
 
+/// The tables' descriptors on the way, with the page table at $8400, and afterwards: each is used.
+static BIG_TABLES: [(u32, u32); 2] = [(0x8000, 0x0000_8202), (0x8200, 0x0000_8402)];
+
+static USED_BIG_TABLES: [(u32, u32); 2] = [(0x8000, 0x0000_820A), (0x8200, 0x0000_840A)];
+
 #[test]
 #[rattlefmt::skip]
 fn walks_through_pages_of_8_kib(rt: HostRuntime) {
     for &(at, big, long, found, left) in &BIG_WALKS {
-        let tables = [(0x8000, 0x0000_8202), (0x8200, 0x0000_8402)];
-        let mut bytes = memory(rt.alloc(), &tables).expect(&rt, "memory");
+        let mut bytes = memory(rt.alloc(), &BIG_TABLES).expect(&rt, "memory");
         set(&mut bytes, &[(0x8404, long)]);
-        let after = [(0x8000, 0x0000_820A), (0x8200, 0x0000_840A), (0x8404, left)];
-        let after = memory(rt.alloc(), &after).expect(&rt, "memory");
+        let mut after = memory(rt.alloc(), &USED_BIG_TABLES).expect(&rt, "memory");
+        set(&mut after, &[(0x8404, left)]);
         let wanted = match found {
             Some((page, frame, status)) => {
                 let kept = Kept { space: Super, page, frame, w: false, s: false, g: false, m: false };

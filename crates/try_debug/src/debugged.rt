@@ -238,6 +238,20 @@ fn commands_print(rt: HostRuntime) {
     }
 }
 
+/// What is printed behind the 64 break points, before the entries.
+static BEHIND_ALL: [&str; 10] = [
+    "full",
+    "break 0000003F",
+    "clear 00000005",
+    "break 00000005",
+    "clear 00000000",
+    "break 00000418",
+    "at 5 pc 00000418 running break",
+    "clear 00000418",
+    "at 774 pc 0000041C running",
+    "kept 256",
+];
+
 #[test]
 fn all_break_points_and_all_that_is_kept(rt: HostRuntime) {
     let alloc = rt.alloc();
@@ -251,18 +265,7 @@ fn all_break_points_and_all_that_is_kept(rt: HostRuntime) {
         b"break 40\nbreak 3F\nclear 5\nbreak 5\nclear 0\nbreak 418\ngo 9\nclear 418\ngo 769\nkept\n";
     assert!(rt; session.run(alloc, commands, 1000, &mut out) == Some(Ok(())));
     let mut lines = out.bytes().split(|byte| *byte == b'\n').skip(64);
-    for line in [
-        "full",
-        "break 0000003F",
-        "clear 00000005",
-        "break 00000005",
-        "clear 00000000",
-        "break 00000418",
-        "at 5 pc 00000418 running break",
-        "clear 00000418",
-        "at 774 pc 0000041C running",
-        "kept 256",
-    ] {
+    for &line in &BEHIND_ALL {
         assert!(rt; lines.next() == Some(line.as_bytes()), "{line}");
     }
     for page in 0..256u32 {

@@ -82,6 +82,14 @@ fn faulty_lines(rt: HostRuntime) -> Result<(), Fail> {
     Ok(())
 }
 
+/// The addresses and bytes of a program's chunks.
+#[rattlefmt::skip]
+static CHUNKS: [(u32, &[u8]); 3] = [
+    (0, b"\x00\x01\x00\x00\x00\x00\x04\x00"),
+    (0x400, b"\x41\xFA\x00\x14\x10\x18\x67\x0A\x13\xC0\xFF\xF0\x00\x00\x60\x00\xFF\xF4\x4E\x72\x27\x00Hi\n\x00"),
+    (0x41E, b"\x00\x1E\x04\x1E"),
+];
+
 #[rattlefmt::skip]
 #[test]
 fn images(rt: HostRuntime) -> Result<(), Fail> {
@@ -100,13 +108,8 @@ start:  LEA (text,PC),A0\nloop    MOVE.B (A0)+,D0\n        BEQ.S done\n\
 \x20       MOVE.B D0,out\n        BRA loop\ndone    STOP #$2700\nout     EQU $FFF00000\n\
 text    DC.B \"Hi\",10,0\n        EVEN\n        DS.W 2\nend     DC.W end-start, *\n";
     let image = assemble(rt.alloc(), text)?;
-    let chunks: [(u32, &[u8]); 3] = [
-        (0, b"\x00\x01\x00\x00\x00\x00\x04\x00"),
-        (0x400, b"\x41\xFA\x00\x14\x10\x18\x67\x0A\x13\xC0\xFF\xF0\x00\x00\x60\x00\xFF\xF4\x4E\x72\x27\x00Hi\n\x00"),
-        (0x41E, b"\x00\x1E\x04\x1E"),
-    ];
-    assert!(rt; image.chunks().len() == chunks.len());
-    for (chunk, (at, bytes)) in image.chunks().iter().zip(chunks) {
+    assert!(rt; image.chunks().len() == CHUNKS.len());
+    for (chunk, &(at, bytes)) in image.chunks().iter().zip(&CHUNKS) {
         assert!(rt; chunk.at() == at);
         assert!(rt; chunk.bytes() == bytes);
     }

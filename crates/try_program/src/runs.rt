@@ -145,7 +145,7 @@ struct Row<'a> {
     lines: &'a [&'a [u8]],
 }
 
-const ROWS: [Row; 21] = [
+static ROWS: [Row; 21] = [
     Row {
         what: "no step is taken",
         image: HELLO,
@@ -348,7 +348,7 @@ S9030000FC\n",
 
 #[test]
 fn machines_run(rt: HostRuntime) -> Result<(), Fail> {
-    for row in ROWS.iter() {
+    for row in &ROWS {
         let words = format!(in rt.alloc();
             "mbx bare hello.s19 --ram 64 --steps {} --script typed.txt",
             row.steps
@@ -643,7 +643,7 @@ macro_rules! unread {
 }
 
 #[rattlefmt::skip]
-const ENDINGS: [Ending; 48] = [
+static ENDINGS: [Ending; 48] = [
     image!(b"", "mbx: hello.s19 no end\n"),
     image!(b"S104000001FA\n", "mbx: hello.s19 no end\n"),
     image!(b"S10B00000001000000000400EE\nS9030000FC\n", "mbx: hello.s19 line 1: sum\n"),
@@ -733,7 +733,7 @@ const ENDINGS: [Ending; 48] = [
 /// A file that is malformed or cannot be read ends the run; of two such files, the first does.
 #[test]
 fn a_file_ends_the_run(rt: HostRuntime) {
-    for ending in ENDINGS.iter() {
+    for ending in &ENDINGS {
         let ran = run_both(
             rt.alloc(),
             ending.words,

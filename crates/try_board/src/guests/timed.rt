@@ -24,7 +24,7 @@ fn counts_of(alloc: Global, chunks: &[Chunk], turns: &[u32]) -> Option<(Counts, 
 }
 
 /// The timer asks at every eleventh step, and each entry acknowledges it and goes back.
-const EVERY_ELEVENTH: [Chunk; 4] = [
+const EVERY_ELEVENTH: &[Chunk] = &[
     RESET,
     (0x78, &[0, 0, 5, 0]),
     (
@@ -43,7 +43,7 @@ const EVERY_ELEVENTH: [Chunk; 4] = [
 
 /// The timer asks at the third step behind that which sets its period. The entry stops it and goes back, and the loop
 /// sets it again.
-const AT_THE_THIRD: [Chunk; 4] = [
+const AT_THE_THIRD: &[Chunk] = &[
     RESET,
     (0x78, &[0, 0, 5, 0]),
     (
@@ -64,7 +64,7 @@ const AT_THE_THIRD: [Chunk; 4] = [
 ];
 
 /// STOP holds the processor until the timer asks, at every eleventh step, and each entry acknowledges it and goes back.
-const HELD: [Chunk; 4] = [
+const HELD: &[Chunk] = &[
     RESET,
     (0x78, &[0, 0, 5, 0]),
     (
@@ -86,7 +86,7 @@ struct Timed {
 
 static TIMED: [Timed; 3] = [
     Timed {
-        chunks: &EVERY_ELEVENTH,
+        chunks: EVERY_ELEVENTH,
         turns: &[&[84], &[1; 84], &[2; 42], &[7; 12]],
         counts: Counts {
             retired: 61,
@@ -97,7 +97,7 @@ static TIMED: [Timed; 3] = [
         },
     },
     Timed {
-        chunks: &AT_THE_THIRD,
+        chunks: AT_THE_THIRD,
         turns: &[&[60], &[1; 60], &[2; 30], &[3; 20], &[4; 15], &[5; 12]],
         counts: Counts {
             retired: 29,
@@ -108,7 +108,7 @@ static TIMED: [Timed; 3] = [
         },
     },
     Timed {
-        chunks: &HELD,
+        chunks: HELD,
         turns: &[&[88], &[1; 88], &[2; 44], &[4; 22], &[8; 11], &[11; 8]],
         counts: Counts {
             retired: 7,

@@ -162,12 +162,15 @@ static UNFAILING: [(&str, u8); 17] = [
     ("mbx compare hello.s19", 3),
 ];
 
+/// The files that these words find.
+static FILES: [(&str, &[u8]); 2] = [("s.txt", SESSION_OF_ONE), ("hello.s19", HELLO)];
+
 #[test]
 fn nothing_outside_fails(rt: HostRuntime) {
     for &(line, status) in &UNFAILING {
         let words = split_words(rt.alloc(), line).expect(&rt, "ample memory");
         let mut files = Vec::new(rt.alloc());
-        for (name, bytes) in [("s.txt", SESSION_OF_ONE), ("hello.s19", HELLO)] {
+        for &(name, bytes) in &FILES {
             let bytes = Vec::from_slice(rt.alloc(), bytes).expect(&rt, "ample memory");
             let file = file(rt.alloc(), name, bytes).expect(&rt, "ample memory");
             files.push(file).expect(&rt, "ample memory");

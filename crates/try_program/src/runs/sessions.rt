@@ -73,37 +73,40 @@ pub(super) struct Row<'a> {
     pub(super) diag: &'a [u8],
 }
 
-/// A shelf with all images, the contents of a disk, a script that types a line, a source, a session, a snapshot, and a
-/// debugger's commands.
-fn shelf<'a>(alloc: Global, session: &'a [u8], commands: &'a [u8], fails: u64) -> Option<MemShelf> {
-    let known: [(&str, &[u8]); 24] = [
-        ("s.txt", session),
-        ("hello.snap", SAVED),
-        ("debug.txt", commands),
-        ("hello.s19", HELLO),
-        ("loop.s19", LOOP),
-        ("reads.s19", READS),
-        ("reads_pages.s19", READS_PAGES),
-        ("fill.s19", FILL),
-        ("zeros.s19", ZEROS),
-        ("stale.s19", STALE),
-        ("bad.s19", b"S9030000FB\n"),
-        ("store.s19", STORE),
-        ("beyond.s19", BEYOND),
-        ("copy.s19", COPY),
-        ("commands.s19", COMMANDS),
-        ("resets.s19", RESETS),
-        ("ends.s19", ENDS),
-        ("wraps.s19", WRAPS),
-        ("narrow.s19", NARROW),
-        ("mapped.s19", MAPPED),
-        ("loads.s19", LOADS),
-        ("disk.s19", CONTENTS),
-        ("typed.txt", b"at 1 text A\n"),
-        ("hello.s", SOURCE),
-    ];
+/// All images, the contents of a disk, a script that types a line, a source, and a snapshot.
+static KNOWN: [(&str, &[u8]); 22] = [
+    ("hello.snap", SAVED),
+    ("hello.s19", HELLO),
+    ("loop.s19", LOOP),
+    ("reads.s19", READS),
+    ("reads_pages.s19", READS_PAGES),
+    ("fill.s19", FILL),
+    ("zeros.s19", ZEROS),
+    ("stale.s19", STALE),
+    ("bad.s19", b"S9030000FB\n"),
+    ("store.s19", STORE),
+    ("beyond.s19", BEYOND),
+    ("copy.s19", COPY),
+    ("commands.s19", COMMANDS),
+    ("resets.s19", RESETS),
+    ("ends.s19", ENDS),
+    ("wraps.s19", WRAPS),
+    ("narrow.s19", NARROW),
+    ("mapped.s19", MAPPED),
+    ("loads.s19", LOADS),
+    ("disk.s19", CONTENTS),
+    ("typed.txt", b"at 1 text A\n"),
+    ("hello.s", SOURCE),
+];
+
+/// A shelf with what is known, a session, and a debugger's commands.
+fn shelf(alloc: Global, session: &[u8], commands: &[u8], fails: u64) -> Option<MemShelf> {
     let mut files = Vec::new(alloc);
-    for (name, bytes) in known {
+    let session = Vec::from_slice(alloc, session).ok()?;
+    files.push(file(alloc, "s.txt", session)?).ok()?;
+    let commands = Vec::from_slice(alloc, commands).ok()?;
+    files.push(file(alloc, "debug.txt", commands)?).ok()?;
+    for &(name, bytes) in &KNOWN {
         files
             .push(file(alloc, name, Vec::from_slice(alloc, bytes).ok()?)?)
             .ok()?;
@@ -298,16 +301,18 @@ fn sessions_run_or_are_refused(rt: HostRuntime) {
     }
 }
 
+/// Words over a session of two guests, and how many steps the board carried out and exceptions it took for them.
+static CARRIED_OUT: [(&str, u64, u64); 3] = [
+    ("mbx host s.txt", 19, 3),
+    ("mbx compare s.txt", 19, 3),
+    ("mbx bare loop.s19 --ram 64 --steps 100", 0, 0),
+];
+
 #[test]
 fn what_the_board_carries_out_is_counted(rt: HostRuntime) {
     let session =
         b"session 1\nboard 320\nslice 5\nguest 64 100 loop.s19 -\nguest 64 8 loop.s19 -\n";
-    let rows: [(&str, u64, u64); 3] = [
-        ("mbx host s.txt", 19, 3),
-        ("mbx compare s.txt", 19, 3),
-        ("mbx bare loop.s19 --ram 64 --steps 100", 0, 0),
-    ];
-    for (words, retired, exceptions) in rows {
+    for &(words, retired, exceptions) in &CARRIED_OUT {
         let ran = run_session(rt.alloc(), words, session, ROOMY).expect(&rt, "ample memory");
         assert!(rt; ran.status == 0, "{words}");
         assert!(rt; ran.native.retired() == retired, "{words}");
@@ -327,15 +332,17 @@ guest 64 10 hello.s19 -\nguest 64 50000 fill.s19 -\n";
 const TURNS: &[u8] = b"session 2\nboard 320\nslice 1000\n\
 guest 64 10 hello.s19 -\nguest 64 50000 fill.s19 -\nturn 2 7\nturn 1 3\nturn 2 100\n";
 
+/// Words, and another schedule of the same guests.
+static SCHEDULES: [(&str, &str, &[u8]); 3] = [
+    ("mbx host s.txt", "steps", STEPS),
+    ("mbx host s.txt", "turns", TURNS),
+    ("mbx compare s.txt", "turns", TURNS),
+];
+
 /// Neither slices nor turns show, nor do they count.
 #[test]
 fn schedules_do_not_show(rt: HostRuntime) {
-    let rows = [
-        ("mbx host s.txt", "steps", STEPS),
-        ("mbx host s.txt", "turns", TURNS),
-        ("mbx compare s.txt", "turns", TURNS),
-    ];
-    for (words, what, session) in rows {
+    for &(words, what, session) in &SCHEDULES {
         let rounds = run_session(rt.alloc(), words, ROUNDS, ROOMY).expect(&rt, "ample memory");
         let others = run_session(rt.alloc(), words, session, ROOMY).expect(&rt, "ample memory");
         assert!(rt; rounds.status == 0 && others.status == 0, "{words}: {what}");
