@@ -22,7 +22,7 @@ use Rattle.mb_program.specs.Headline.{Headline, IsFree, alone}
 use Rattle.mb_program.specs.Answers.{Answer, Shown, shows, oversizes, answer_to, if_it_fits}
 use Rattle.mb_program.specs.Answers.{bare_shown, asm_shown, dis_shown, host_shown, compare_shown, gen_shown}
 use Rattle.mb_program.specs.Around.{Around, Diag, IsPut}
-use Rattle.mb_program.specs.Causes.{Causes, Gets, Gives, HostsNothing, IsUnfailing, LeadsUnfailingTo}
+use Rattle.mb_program.specs.Causes.{Causes, Gets, Gives, HasSaved, HostsNothing, IsUnfailing, LeadsUnfailingTo}
 use Rattle.mb_program.specs.Ends.{Ends}
 use Rattle.mb_program.specs.Lines.{line_of, status_of}
 use Rattle.mb_files.specs.declared.fault.FileWhy.{FileWhy}
@@ -95,8 +95,8 @@ gone_on_so asked a diag status given r text steps s is told saved =
     subst (λ (shown : Shown). Gives a diag shown status) on.shows (resumed_so asked a diag status given r on.plan is on.gets on.fits)
 
 pub causes_so : (asked : Option Asked) (a : Around) (diag : Diag) (end : End) → Ends asked a end → IsPut diag (line_of end)
-    → (HostsNothing asked → a.native_after ≡ a.native) → Causes asked a diag (status_of end)
-causes_so asked a diag end h line unhosted =
+    → HasSaved asked a (status_of end) → (HostsNothing asked → a.native_after ≡ a.native) → Causes asked a diag (status_of end)
+causes_so asked a diag end h line saved unhosted =
     let given = gives_so asked a diag end h line in
     let still = stands asked a end h in
     record {
@@ -112,6 +112,7 @@ causes_so asked a diag end h line unhosted =
       tidy = λ name s is gets fits. tidy_so a diag s (status_of end) (compared_so asked a diag (status_of end) given name s is gets fits);
       debugged = debugged_so asked a diag (status_of end) given;
       saved = saved_so asked a diag (status_of end) given;
+      is_saved = saved;
       resumed = resumed_so asked a diag (status_of end) given;
       goes_on = gone_on_so asked a diag (status_of end) given;
       generated = λ workload is. given (generation workload) (gen_shown workload) is refl;

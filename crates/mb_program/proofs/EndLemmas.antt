@@ -1,7 +1,7 @@
 -- What follows of the end of a run at its status.
 use Rattle.std.proofs.Common.{◌≡◌, ◌∙◌, ◌⊎◌, ◌<◌, ℕ, [], inl, inr, refl, sym, ap, subst, arith, Option, Some, None, Ok, Err}
 use Rattle.std.specs.Prelude.{string_bytes, codes}
-use Rattle.mb_words.specs.Words.{Text, Asked}
+use Rattle.mb_words.specs.Words.{Text, Asked, SavePoint, saving}
 use Rattle.def_runs.specs.Native.{NativeState}
 use Rattle.mb_files.specs.Reading.{Reading, ◌>>=◌, gives, end_of}
 use Rattle.mb_files.specs.Comes.{Comes}
@@ -14,8 +14,10 @@ use Rattle.mb_files.proofs.ReadingLemmas.{comes_then, known, named_is_told, unre
 use Rattle.mb_program.specs.Answers.{Answer, Shown, shows, oversizes, answer_to}
 use Rattle.mb_program.specs.Around.{Around, Diag, SinkSeen, IsPut}
 use Rattle.mb_program.specs.Ends.{AnswerGiven, CommandEnds, Ends, EndsAt, IsGiven, IsIdle, IsShown, WordsEnd, end_by}
-use Rattle.mb_program.specs.Causes.{Cut, FileRefused, FileUnread, Gets, Gives, IsAllTold, IsDone, IsOversize, IsRefused, IsStatus, NotFit, Written}
+use Rattle.mb_program.specs.Causes.{Cut, FileRefused, FileUnread, Gets, Gives, HasSaved, IsAllTold, IsDone, IsOversize, IsRefused, IsStatus, NotFit, Written}
+use Rattle.mb_program.specs.Files.{Ordered, session_files}
 use Rattle.mb_program.specs.Lines.{line_of, status_of}
+use Rattle.mb_program.specs.Saves.{IsSaved}
 use Rattle.mb_program.specs.declared.end.End.{End}
 use Rattle.mb_program.specs.declared.end.End.TheVariants.{Done, Counts, Differs, Words, Refused, Oversize, Unread, Output, Memory}
 
@@ -137,6 +139,24 @@ differs_so (Some asked) a diag end h line one = elim h [
       (λ e. absurd cc) (λ e. absurd cc) (λ e. absurd cc))
   | inr g ↦ written asked a diag end 1 g (had_one g.answer a.out a.out_after a.native a.native_after end g.given one) line
 ]
+
+-- ---- what was saved
+
+-- none where a file was not read
+pub none_read : (f : FileFault) → status_of (end_by f) ≡ 0 → ⊥
+none_read (fault.Refused name why) zero = absurd cc
+none_read (fault.Unread name) zero = absurd cc
+none_read fault.Memory zero = absurd cc
+
+-- the session that was read is the one of which it is promised
+pub has_saved : (p : SavePoint) (read : Ordered) (a : Around) (status : ℕ) → Comes a.shelf.told (session_files p.session) (Ok read)
+    → (status ≡ 0 → IsSaved p.steps read.session) → HasSaved (Some (saving p)) a status
+has_saved p read a status comes saved q s is gets zero =
+    let asked : p ≡ q = cc in
+    let here = subst (λ (o : SavePoint). Gets a (session_files o.session) s) (sym asked) gets in
+    let e = known a.shelf.told (session_files p.session) (Ok s) (Ok read) here comes in
+    let same : read ≡ s = cc in
+    subst (λ (o : SavePoint). IsSaved o.steps s.session) asked (subst (λ (o : Ordered). IsSaved p.steps o.session) same (saved zero))
 
 -- ---- what was refused
 

@@ -6,7 +6,7 @@ use Rattle.std.proofs.lemmas.Bool.{le-ltb}
 use Rattle.std.proofs.lemmas.List.Elements.{All-cons, All-head, All-nil, All-tail}
 use Rattle.std.proofs.lemmas.List.Sums.{sum_by-cons}
 use Rattle.mb_model.specs.Keeping.{rule_k}
-use Rattle.def_machine.specs.Machine.{seen_machine, start}
+use Rattle.def_machine.specs.Machine.{reset_with, seen_machine, start}
 use Rattle.def_machine.proofs.Beneath.{runs_leave_the_size}
 use Rattle.def_guests.specs.Rounds.{Member}
 use Rattle.def_guests.specs.Turns.{Tally}
@@ -15,6 +15,7 @@ use Rattle.vm_disk.specs.Disk.{DiskState}
 use Rattle.vm_disk.specs.Text.{disk_text}
 use Rattle.vm_saved.specs.Resumes.{AddsUp, resumed}
 use Rattle.vm_saved.proofs.Resuming.{started_runs_go_on}
+use Rattle.vm_saved.proofs.Saving.{starts_can_be_saved}
 use Rattle.vm_guest.specs.Session.{GuestAtStart, IsGuest, SessionAtStart}
 use Rattle.vm_slices.specs.Fit.{Fits, share_of}
 use Rattle.vm_slices.specs.Members.{after_rounds, machine_at_end, tally_at_end}
@@ -32,7 +33,6 @@ use Rattle.mb_program.specs.Headline.{alone, machine_text, texts_from}
 use Rattle.mb_program.specs.Direct.{counts_line, steps_hosted}
 use Rattle.mb_program.specs.Shown.{Shown}
 use Rattle.mb_program.specs.Saves.{IsSavedText, all_cut_to, cut_to, gone_on_shown, longer, resume_shown, resumed_guest, seat_of, session_of, shown_alone, tally_since}
-use Rattle.mb_program.proofs.SaveLemmas.{start_size}
 
 -- ---- the guests of the text
 
@@ -110,6 +110,12 @@ same_shown more s guests ok can =
 
 -- ---- they fit as the session did
 
+start_size : (g : GuestAtStart) → IsGuest g → length (start rule_k g.opening g.ram).world.ram ≡ g.ram
+unfolding reset_with
+start_size g ok =
+    let units = ok.ram.2 in
+    sym (starts_can_be_saved g.opening g.ram (omega (arith, units)) ok.image).shown
+
 alone_size : (g : GuestAtStart) → IsGuest g → length (alone rule_k g).world.ram ≡ g.ram
 alone_size g ok = runs_leave_the_size rule_k g.script g.steps (start rule_k g.opening g.ram) ∙ start_size g ok
 
@@ -134,9 +140,9 @@ cut_ok steps (g ∷ guests) ok =
 fits_on : (more steps : ℕ) (s : SessionAtStart) (text : Text) → IsSavedText steps s text
     → Fits (session_of more (plan_of_all s (all_cut_to steps s.guests)))
 fits_on more steps s text saved =
-    let shares = share_all more steps s.guests (cut_ok steps s.guests saved.session.guests) in
-    let fits = saved.fits in
-    let units = saved.session.board.2 in
+    let shares = share_all more steps s.guests (cut_ok steps s.guests saved.saved.session.guests) in
+    let fits = saved.saved.fits in
+    let units = saved.saved.session.board.2 in
     omega (arith, shares, fits, units)
 
 -- ---- what the text comes to
@@ -153,7 +159,7 @@ text_is steps s text saved =
     let plan = plan_of_all s (all_cut_to steps s.guests) in
     let read : IsRead text plan =
     subst (λ t. IsRead t plan) (sym saved.written)
-    (guests_are_told (s.board / 1024) s.slice (map shown_alone (all_cut_to steps s.guests)) saved.lawful) in
+    (guests_are_told (s.board / 1024) s.slice (map shown_alone (all_cut_to steps s.guests)) saved.saved.lawful) in
     rw (le-ltb MOST_SNAPSHOT_BYTES (length text) saved.few) (said_is_known text plan read)
 
 -- What comes of a snapshot that was written of a session: its plan, which fits, and what is shown of it.
@@ -171,5 +177,5 @@ goes_on told_by name text more steps s is saved =
       plan = plan_of_all s guests;
       gets = file_told told_by name text (plan_of_all s guests) is (text_is steps s text saved);
       fits = fits_on more steps s text saved;
-      shows = same_shown more s guests (cut_ok steps s.guests saved.session.guests) saved.lawful.told;
+      shows = same_shown more s guests (cut_ok steps s.guests saved.saved.session.guests) saved.saved.lawful.told;
     }

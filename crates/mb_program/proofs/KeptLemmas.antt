@@ -1,14 +1,15 @@
 -- What a guest keeps, gathered entry by entry.
-use Rattle.std.proofs.Common.{◌≡◌, ◌∙◌, ◌<◌, ◌≤◌, ℕ, zero, suc, ◌+◌, List, [], ◌∷◌, ◌++◌, length, take, get_or, inl, inr, refl, sym, ap, arith, Some, None}
+use Rattle.std.proofs.Common.{◌≡◌, ◌∙◌, ◌<◌, ◌≤◌, ℕ, zero, suc, ◌+◌, List, [], ◌∷◌, ◌++◌, length, take, get_or, inl, inr, refl, sym, ap, subst, arith, Some, None}
 use Rattle.std.specs.Prelude.{IfSome, slice_get}
 use Rattle.std.proofs.Math.Seq.{take-suc}
 use Rattle.std.proofs.lemmas.Bool.{cases_lt}
 use Rattle.std.proofs.lemmas.List.{take_all}
 use Rattle.std.proofs.lemmas.Option.{get_or_from_slice_get, slice_get-get_or, slice_get_within}
 use Rattle.mb_model.specs.declared.kept.Kept.{Kept}
-use Rattle.mb_model.specs.Keeping.{list_of}
+use Rattle.mb_model.specs.Keeping.{list_of, rule_k}
+use Rattle.mb_saved.specs.Saved.{CanBeKept}
 use Rattle.def_guests.specs.Rounds.{Member}
-use Rattle.vm_slices.specs.Adopting.{KeepsFew, kept_at}
+use Rattle.vm_slices.specs.Adopting.{KeepsLawfully, kept_at}
 use Rattle.mb_program.specs.Saved.{kept_by}
 
 -- so many of the first entries of the guest at a place are these
@@ -20,18 +21,19 @@ first_none [] k = tt
 first_none (m ∷ members) zero = refl
 first_none (m ∷ members) (suc k) = first_none members k
 
-one_more : (kept : List Kept) (place : ℕ) (x : Kept) → slice_get kept place ≡ Some x → take (place + 1) kept ≡ take place kept ++ x ∷ []
-one_more kept place x is =
+pub take_one_more : {A : Type 0} (list : List A) (place : ℕ) (x : A) → slice_get list place ≡ Some x
+    → take (place + 1) list ≡ take place list ++ x ∷ []
+take_one_more list place x is =
     let next : place + 1 ≡ suc place = omega arith in
-    ap (λ n. take n kept) next ∙ take-suc kept place x (slice_get_within kept place x is)
-    ∙ ap (λ y. take place kept ++ y ∷ []) (get_or_from_slice_get kept place x x is)
+    ap (λ n. take n list) next ∙ take-suc list place x (slice_get_within list place x is)
+    ∙ ap (λ y. take place list ++ y ∷ []) (get_or_from_slice_get list place x x is)
 
 pub first_more : (members : List Member) (k place : ℕ) (x : Kept) (items : List Kept) → slice_get (kept_at place members) k ≡ Some (Some x)
     → FirstKept members k place items → FirstKept members k (place + 1) (items ++ x ∷ [])
 first_more [] k place x items is first = tt
 first_more (m ∷ members) zero place x items is first =
     let here : slice_get (list_of 0 m.guest.machine.world.kept) place ≡ Some x = cc in
-    ap (λ list. list ++ x ∷ []) first ∙ sym (one_more (list_of 0 m.guest.machine.world.kept) place x here)
+    ap (λ list. list ++ x ∷ []) first ∙ sym (take_one_more (list_of 0 m.guest.machine.world.kept) place x here)
 first_more (m ∷ members) (suc k) place x items is first = first_more members k place x items is first
 
 some_there : (kept : List Kept) (place : ℕ) → slice_get kept place ≡ None → place < length kept → take place kept ≡ kept
@@ -56,9 +58,18 @@ all_first (m ∷ members) zero place items is first =
 all_first (m ∷ members) (suc k) place items is first = all_first members k place items is first
 
 -- and where there are as many as can be
-pub all_full : (members : List Member) (k place : ℕ) (items : List Kept) → k < length members → 256 ≤ place
-    → IfSome (slice_get members k) KeepsFew → FirstKept members k place items → slice_get (kept_by members) k ≡ Some items
-all_full [] k place items there full few first = absurd (omega (arith, there))
-all_full (m ∷ members) zero place items there full few first =
+pub all_full : (members : List Member) (k place : ℕ) (items : List Kept) → k < length members → rule_k.capacity ≤ place
+    → IfSome (slice_get members k) KeepsLawfully → FirstKept members k place items → slice_get (kept_by members) k ≡ Some items
+all_full [] k place items there full can first = absurd (omega (arith, there))
+all_full (m ∷ members) zero place items there full can first =
+    let few = can.few in
     ap (λ list. Some list) (sym (first ∙ take_all place (list_of 0 m.guest.machine.world.kept) (omega (arith, few, full))))
-all_full (m ∷ members) (suc k) place items there full few first = all_full members k place items (omega (arith, there)) full few first
+all_full (m ∷ members) (suc k) place items there full can first = all_full members k place items (omega (arith, there)) full can first
+
+-- These can be kept.
+pub can_be_kept : (members : List Member) (k : ℕ) (items : List Kept) → IfSome (slice_get members k) KeepsLawfully
+    → slice_get (kept_by members) k ≡ Some items → CanBeKept items
+can_be_kept [] k items can is = absurd cc
+can_be_kept (m ∷ members) zero items can is =
+    let same : list_of 0 m.guest.machine.world.kept ≡ items = cc in subst CanBeKept same can
+can_be_kept (m ∷ members) (suc k) items can is = can_be_kept members k items can is

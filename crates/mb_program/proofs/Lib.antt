@@ -13,3 +13,4 @@ pub mod SummaryLemmas
 pub mod EndLemmas
 pub mod TidyLemmas
 pub mod CauseLemmas
+pub mod TwoRunLemmas

@@ -1,10 +1,10 @@
 -- The guests of a session after one turn each.
 use Rattle.std.proofs.Common.{◌≡◌, ◌∙◌, ℕ, zero, suc, ◌+◌, ◌≤◌, ◌<◌, inl, inr, List, [], ◌∷◌, ◌++◌, length, map, take, refl, sym, ap, subst, arith, Option, Some, None, sum_by}
 use Rattle.std.specs.Prelude.{◌-◌, ◌/◌, ◌%◌, ◌^◌, All, IfSome, get_or, min, slice_get}
-use Rattle.std.proofs.lemmas.List.{length-map}
+use Rattle.std.proofs.lemmas.List.{length-map, take_all}
 use Rattle.std.proofs.lemmas.Option.{slice_get-get_or}
 use Rattle.std.proofs.lemmas.Bool.{cases_lt, eq-eqb, ne_eqb}
-use Rattle.std.proofs.lemmas.List.Elements.{All-cons, All-head, All-nil, All-tail}
+use Rattle.std.proofs.lemmas.List.Elements.{All-append, All-cons, All-head, All-nil, All-tail}
 use Rattle.std.proofs.lemmas.List.Sums.{sum_by-cons}
 use Rattle.mb_model.specs.declared.kept.Kept.{Kept}
 use Rattle.mb_model.specs.Keeping.{list_of, rule_k}
@@ -12,27 +12,31 @@ use Rattle.mb_model.specs.Seen.{Seen}
 use Rattle.mb_script.specs.Plan.{IsTurnOf}
 use Rattle.mb_script.specs.declared.turn.Turn.{Turn}
 use Rattle.mb_devices.specs.Devices.{DeviceState}
-use Rattle.def_machine.specs.Machine.{Entries, Machine, reset_with, seen_machine, start}
-use Rattle.def_machine.proofs.Beneath.{runs_leave_the_size}
+use Rattle.mb_saved.specs.Saved.{CanBeKept, IsLawful}
+use Rattle.def_machine.specs.Machine.{Entries, seen_machine, start}
 use Rattle.def_runs.specs.Native.{NativeState}
 use Rattle.def_guests.specs.Rounds.{Hosted, Member, closed_by, left, opened}
 use Rattle.def_guests.specs.Turns.{Tally, exits, prepared, steps_in, turn_of}
 use Rattle.def_guests.proofs.ByRule.{guests_run_alone}
 use Rattle.def_guests.proofs.Counts.{counts_are_steps}
-use Rattle.vm_guest.specs.Session.{GuestAtStart, IsGuest}
-use Rattle.vm_saved.proofs.Saving.{starts_can_be_saved}
+use Rattle.vm_guest.specs.Session.{GuestAtStart, IsGuest, IsSession, SessionAtStart}
+use Rattle.vm_saved.specs.Lawful.{IsGuests}
+use Rattle.vm_saved.proofs.Lawful.{guests_are_lawful, runs_are_guests, starts_are_guests}
 use Rattle.vm_slices.specs.Adopting.{scripts_of}
 use Rattle.vm_slices.specs.Counting.{AreCounted, exits_by, retired_by, steps_by}
-use Rattle.vm_slices.specs.Members.{after_turn, devices_of, member_at_start, shown_of as seen_of_all, tallies_of}
+use Rattle.vm_slices.specs.Members.{after_turn, devices_of, machines_of, member_at_start, shown_of as seen_of_all, tallies_of}
 use Rattle.vm_slices.specs.Orders.{after_order, each_given, steps_given}
+use Rattle.vm_slices.specs.Places.{HostState, members_in}
 use Rattle.vm_disk.specs.Disk.{DiskState}
-use Rattle.vm_snapshot.specs.Shown.{ShownGuest, guests_text, head_text, snapshot_text}
+use Rattle.vm_snapshot.specs.Shown.{CanBeTold, ShownGuest, guests_text, head_text, saved_in, snapshot_text}
 use Rattle.vm_snapshot.specs.Texts.{guest_text}
 use Rattle.mb_program.specs.Headline.{texts_from}
 use Rattle.mb_program.specs.Direct.{AreCarriedOut, steps_hosted, tallies_by, tally_by}
-use Rattle.mb_program.specs.Saves.{all_cut_to, cut_to, shown_alone, shown_of, turn_each}
-use Rattle.mb_program.specs.Saved.{AreWhole, IsWhole, kept_by, shown_by, shown_text}
+use Rattle.mb_program.specs.Saves.{IsSaved, all_cut_to, cut_to, shown_alone, shown_of, turn_each}
+use Rattle.mb_program.specs.Saved.{AreGuests, HaveStopped, kept_by, shown_by, shown_text}
+use Rattle.mb_program.proofs.KeptLemmas.{take_one_more}
 use Rattle.mb_program.proofs.RunLemmas.{all_left, exits_sum, none_left, none_retired, none_taken, retired_sum}
+use Rattle.mb_program.proofs.TextLemmas.{at_place}
 
 -- ---- turns
 
@@ -125,32 +129,23 @@ pub shown_so : (steps : ℕ) (guests : List GuestAtStart) (after : List Member) 
     → shown_by after ≡ map shown_alone (all_cut_to steps guests)
 shown_so steps guests after is = ap shown_by is ∙ shown_all steps guests
 
--- ---- RAM keeps its size
+-- ---- they are guests
 
-pub start_size : (g : GuestAtStart) → IsGuest g → length (start rule_k g.opening g.ram).world.ram ≡ g.ram
-unfolding reset_with
-start_size g ok =
-    let units = ok.ram.2 in
-    sym (starts_can_be_saved g.opening g.ram (omega (arith, units)) ok.image).shown
-
-whole_one : (steps : ℕ) (g : GuestAtStart) → IsGuest g → IsWhole (stopped steps g)
-whole_one steps g ok =
+guest_one : (steps : ℕ) (g : GuestAtStart) → IsGuest g → IsGuests (stopped steps g).guest.machine
+guest_one steps g ok =
     let n = min steps g.steps in
-    let size = ap (λ (m : Machine). length m.world.ram) (guests_run_alone g.opening g.script g.ram n)
-    ∙ runs_leave_the_size rule_k g.script n (start rule_k g.opening g.ram) ∙ start_size g ok in
-    let most = ok.ram.1 in
-    let units = ok.ram.2 in
-    record { units = omega (arith, size, units); few = omega (arith, size, most) }
+    subst IsGuests (sym (guests_run_alone g.opening g.script g.ram n))
+    (runs_are_guests rule_k g.script n (start rule_k g.opening g.ram) (starts_are_guests rule_k g.opening g.ram ok.ram ok.image))
 
-whole_all : (steps : ℕ) (guests : List GuestAtStart) → All IsGuest guests → AreWhole (map (stopped steps) guests)
-whole_all steps [] all = All-nil IsWhole
-whole_all steps (g ∷ guests) all =
-    All-cons IsWhole (stopped steps g) (map (stopped steps) guests) (whole_one steps g (All-head IsGuest g guests all))
-    (whole_all steps guests (All-tail IsGuest g guests all))
+guests_all : (steps : ℕ) (guests : List GuestAtStart) → All IsGuest guests → AreGuests (map (stopped steps) guests)
+guests_all steps [] all = All-nil IsGuests
+guests_all steps (g ∷ guests) all =
+    All-cons IsGuests (stopped steps g).guest.machine (machines_of (map (stopped steps) guests)) (guest_one steps g (All-head IsGuest g guests all))
+    (guests_all steps guests (All-tail IsGuest g guests all))
 
-pub whole_so : (steps : ℕ) (guests : List GuestAtStart) (after : List Member) → All IsGuest guests → after ≡ map (stopped steps) guests
-    → AreWhole after
-whole_so steps guests after all is = subst AreWhole (sym is) (whole_all steps guests all)
+pub guests_so : (steps : ℕ) (guests : List GuestAtStart) (after : List Member) → All IsGuest guests → after ≡ map (stopped steps) guests
+    → AreGuests after
+guests_so steps guests after all is = subst AreGuests (sym is) (guests_all steps guests all)
 
 -- ---- what is counted
 
@@ -206,7 +201,7 @@ counted_so steps guests before after native native_after begun is counted =
 abbrev pub shown_as : List Kept → Entries → Seen → DeviceState → ShownGuest
 shown_as kept script seen devices = record { kept = kept; script = script; seen = seen; disk = devices.disk }
 
-pub shown_at : (members : List Member) (k : ℕ) (kept : List Kept) (script : Entries) (seen : Seen) (devices : DeviceState)
+shown_at : (members : List Member) (k : ℕ) (kept : List Kept) (script : Entries) (seen : Seen) (devices : DeviceState)
     → slice_get (kept_by members) k ≡ Some kept → slice_get (scripts_of members) k ≡ Some script → slice_get (seen_of_all members) k ≡ Some seen
     → slice_get (devices_of members) k ≡ Some devices
     → slice_get (shown_by members) k ≡ Some (record { kept = kept; script = script; seen = seen; disk = devices.disk })
@@ -222,6 +217,13 @@ shown_at (m ∷ members) zero kept script seen devices keeps has shows is =
     ∙ ap (λ what. shown_as kept script what m.guest.machine.world.devices) c
     ∙ ap (λ those. shown_as kept script seen those) d)
 shown_at (m ∷ members) (suc k) kept script seen devices keeps has shows is = shown_at members k kept script seen devices keeps has shows is
+
+-- what holds of it holds there
+pub written_at : (members : List Member) (k : ℕ) (kept : List Kept) (script : Entries) (seen : Seen) (devices : DeviceState) (P : ShownGuest → Type 0)
+    → slice_get (kept_by members) k ≡ Some kept → slice_get (scripts_of members) k ≡ Some script → slice_get (seen_of_all members) k ≡ Some seen
+    → slice_get (devices_of members) k ≡ Some devices → P (shown_as kept script seen devices) → IfSome (slice_get (shown_by members) k) P
+written_at members k kept script seen devices P keeps has shows is holds =
+    subst (λ (here : Option ShownGuest). IfSome here P) (sym (shown_at members k kept script seen devices keeps has shows is)) holds
 
 -- its lines
 pub text_is : (number bytes : ℕ) (kept list : List Kept) (script : Entries) (seen : Seen) (devices : DeviceState) (disk : Option DiskState)
@@ -252,10 +254,6 @@ pub some_holds : {A : Type 0} (o : Option A) (x : A) (P : A → Type 0) → o �
 some_holds None x P is holds = absurd cc
 some_holds (Some y) x P is holds = let same : y ≡ x = cc in subst P same holds
 
--- what holds of one that is there
-pub holds_some : {A : Type 0} (o : Option A) (x : A) (P : A → Type 0) → o ≡ Some x → P x → IfSome o P
-holds_some {A} o x P is holds = subst (λ (here : Option A). IfSome here P) (sym is) holds
-
 -- a snapshot is its first lines, and then those of each guest
 pub snapshot_is : (board slice count : ℕ) (members : List Member) → count ≡ length members
     → snapshot_text board slice (shown_by members) ≡ head_text board slice count ++ texts_from shown_text 1 (shown_by members)
@@ -264,12 +262,68 @@ snapshot_is board slice count members is =
     ap (λ n. head_text board slice n ++ guests_text 1 (shown_by members)) many
     ∙ ap (λ text. head_text board slice count ++ text) (sym (texts_are 1 (shown_by members)))
 
--- RAM of the guest at a place is so
-pub whole_at : (members : List Member) (k : ℕ) (seen : Seen) → AreWhole members → slice_get (seen_of_all members) k ≡ Some seen
+-- RAM of the guest at a place is of whole KiB, and its size a number of 32 bits
+pub whole_at : (members : List Member) (k : ℕ) (seen : Seen) → AreGuests members → slice_get (seen_of_all members) k ≡ Some seen
     → (length seen.ram % 1024 ≡ 0) × (length seen.ram < 2 ^ 32)
 whole_at [] k seen all is = absurd cc
 whole_at (m ∷ members) zero seen all is =
     let same : seen_machine m.guest.machine ≡ seen = cc in
-    let here = All-head IsWhole m members all in
-    subst (λ (s : Seen). (length s.ram % 1024 ≡ 0) × (length s.ram < 2 ^ 32)) same (here.units, here.few)
-whole_at (m ∷ members) (suc k) seen all is = whole_at members k seen (All-tail IsWhole m members all) is
+    let ram = (All-head IsGuests m.guest.machine (machines_of members) all).ram in
+    let most = ram.1 in
+    let units = ram.2 in
+    subst (λ (s : Seen). (length s.ram % 1024 ≡ 0) × (length s.ram < 2 ^ 32)) same (omega (arith, units), omega (arith, most))
+whole_at (m ∷ members) (suc k) seen all is = whole_at members k seen (All-tail IsGuests m.guest.machine (machines_of members) all) is
+
+-- ---- it is lawful
+
+-- what is saved of the guest at a place
+pub lawful_at : (members : List Member) (k : ℕ) (kept : List Kept) (seen : Seen) → AreGuests members → CanBeKept kept
+    → slice_get (kept_by members) k ≡ Some kept → slice_get (seen_of_all members) k ≡ Some seen → IsLawful (saved_in kept seen)
+lawful_at [] k kept seen all can keeps is = absurd cc
+lawful_at (m ∷ members) zero kept seen all can keeps is =
+    let same_kept : list_of 0 m.guest.machine.world.kept ≡ kept = cc in
+    let same_seen : seen_machine m.guest.machine ≡ seen = cc in
+    let lawful = guests_are_lawful m.guest.machine (All-head IsGuests m.guest.machine (machines_of members) all) (subst CanBeKept (sym same_kept) can) in
+    subst (λ (s : Seen). IsLawful (saved_in kept s)) same_seen
+    (subst (λ (list : List Kept). IsLawful (saved_in list (seen_machine m.guest.machine))) same_kept lawful)
+lawful_at (m ∷ members) (suc k) kept seen all can keeps is =
+    lawful_at members k kept seen (All-tail IsGuests m.guest.machine (machines_of members) all) can keeps is
+
+-- one more guest can be told
+pub told_more : (k : ℕ) (guests : List ShownGuest) (g : ShownGuest) → slice_get guests (k + 1 - 1) ≡ Some g → All CanBeTold (take k guests)
+    → CanBeTold g → All CanBeTold (take (k + 1) guests)
+told_more k guests g is before here =
+    subst (λ (list : List ShownGuest). All CanBeTold list) (sym (take_one_more guests k g (at_place k guests g is)))
+    (All-append CanBeTold (take k guests) (g ∷ []) before (All-cons CanBeTold g [] here (All-nil CanBeTold)))
+
+-- all of them, where there are no more
+pub told_all : (k : ℕ) (members : List Member) → length members ≤ k → All CanBeTold (take k (shown_by members)) → All CanBeTold (shown_by members)
+told_all k members few all =
+    let count : length (shown_by members) ≡ length members = length-map members (λ (m : Member). shown_of m.script m.guest.machine) in
+    subst (λ (list : List ShownGuest). All CanBeTold list) (take_all k (shown_by members) (omega (arith, few, count))) all
+
+-- what is written of a session
+pub is_saved : (steps : ℕ) (s : SessionAtStart) (host : HostState) (native native_after : NativeState) → IsSession s → s.slice < 2 ^ 32
+    → HaveStopped steps s native native_after host → All CanBeTold (shown_by (members_in host)) → IsSaved steps s
+is_saved steps s host native native_after session few stopped told =
+    let count : length (map shown_alone (all_cut_to steps s.guests)) ≡ length s.guests =
+    length-map (all_cut_to steps s.guests) shown_alone ∙ length-map s.guests (cut_to steps) in
+    let least = session.board.0 in
+    let most = session.board.1 in
+    let units = session.board.2 in
+    let some = session.some in
+    let seats = session.few in
+    record {
+      session = session;
+      fits = stopped.fits;
+      lawful = record {
+        least = omega (arith, least);
+        most = omega (arith, most);
+        units = omega (arith, units);
+        turns = session.slice;
+        few = omega (arith, few);
+        some = omega (arith, some, count);
+        seats = omega (arith, seats, count);
+        told = subst (λ (guests : List ShownGuest). All CanBeTold guests) stopped.shown told;
+      };
+    }

@@ -22,6 +22,7 @@ use Rattle.mb_program.specs.Direct.{CarriedOut, counts_line}
 use Rattle.mb_program.specs.Answers.{Answer, Shown, shows, oversizes, host_shown, if_it_fits}
 use Rattle.mb_program.specs.Around.{SinkSeen, Gains, GainsPart}
 use Rattle.mb_program.specs.Ends.{IsGiven, IsIdle}
+use Rattle.mb_program.specs.Lines.{status_of}
 use Rattle.mb_program.specs.Runs.{HaveRun, IsUnopened, unopened}
 use Rattle.mb_program.specs.declared.end.End.{End}
 use Rattle.mb_program.specs.declared.end.End.TheVariants.{Counts, Done, Memory, Output}
@@ -109,3 +110,8 @@ pub not_opened : (s : SessionAtStart) (shown : Shown) (out : SinkSeen) (native n
 not_opened s shown out native native_after open_fault.Memory un same = memory_gone (if_it_fits s shown) out out native native_after (refl, same)
 not_opened s shown out native native_after (open_fault.Oversize need have) un same =
     rw (lt-ltb s.board (need_of s.guests) un.0) (un.1, un.2, (refl, same))
+
+-- and nothing was written
+pub none_written : (fault : OpenFault) → status_of (unopened fault) ≡ 0 → ⊥
+none_written open_fault.Memory zero = absurd cc
+none_written (open_fault.Oversize need have) zero = absurd cc

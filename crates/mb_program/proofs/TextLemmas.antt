@@ -55,7 +55,7 @@ texts_whole : {A : Type 0} (f : ℕ → A → Text) (n : ℕ) (xs : List A)
 texts_whole f n xs = ap (λ ys. texts_from f 1 ys) (sym (take-append-drop n xs)) ∙ texts_behind f 1 (take n xs) (drop n xs)
 
 -- the one of a number that counts from 1
-at_place : {A : Type 0} (k : ℕ) (xs : List A) (x : A) → slice_get xs (k + 1 - 1) ≡ Some x → slice_get xs k ≡ Some x
+pub at_place : {A : Type 0} (k : ℕ) (xs : List A) (x : A) → slice_get xs (k + 1 - 1) ≡ Some x → slice_get xs k ≡ Some x
 at_place k xs x is =
     let same : k ≡ k + 1 - 1 = omega arith in
     ap (λ n. slice_get xs n) same ∙ is

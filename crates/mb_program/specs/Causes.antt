@@ -22,7 +22,7 @@ use Rattle.mb_program.specs.Files.{Ordered, machine_files, session_files}
 use Rattle.mb_program.specs.Answers.{Answer, Shown, shows, oversizes, answer_to}
 use Rattle.mb_program.specs.Answers.{bare_shown, asm_shown, dis_shown, host_shown, compare_shown, gen_shown}
 use Rattle.mb_program.specs.Debugs.{debugged_files, debugged_shown}
-use Rattle.mb_program.specs.Saves.{IsSavedText, all_cut_to, gone_on_shown, resume_shown, save_shown, session_of}
+use Rattle.mb_program.specs.Saves.{IsSaved, IsSavedText, all_cut_to, gone_on_shown, resume_shown, save_shown, session_of}
 use Rattle.vm_snapshot.specs.Plans.{Plan}
 use Rattle.mb_program.specs.Around.{Around, Diag, Gains, GainsPart, IsPut}
 use Rattle.mb_program.specs.Direct.{IsCounted}
@@ -121,6 +121,11 @@ HostsNothing (Some (assembly name)) = ⊤
 HostsNothing (Some (disassembly excerpt)) = ⊤
 HostsNothing (Some _) = ⊥
 
+-- Where the words ask to save a session whose files are told, what was written with status 0 is lawful.
+abbrev pub HasSaved : Option Asked → Around → (status : ℕ) → Type 0
+HasSaved asked a status = (p : SavePoint) (s : Ordered) → asked ≡ Some (saving p)
+    → Gets a (session_files p.session) s → status ≡ 0 → IsSaved p.steps s.session
+
 -- the statuses
 abbrev pub IsStatus : ℕ → Type 0
 IsStatus status =
@@ -155,6 +160,8 @@ pub record Causes (asked : Option Asked) (a : Around) (diag : Diag) (status : �
   -- The snapshot of a session that fits: of each guest its machine after these steps alone.
   pub saved : (p : SavePoint) (s : Ordered) → asked ≡ Some (saving p)
       → Gets a (session_files p.session) s → Fits s.session → Gives a diag (save_shown p.steps s.session) status
+  -- It is lawful: the grammar of snapshots holds of it.
+  pub is_saved : HasSaved asked a status
   -- The guests of a snapshot that fits, each from there for so many steps more.
   pub resumed : (r : Resumption) (plan : Plan) → asked ≡ Some (resuming r)
       → Gets a (file snapshots r.snapshot) plan → Fits (session_of r.steps plan)

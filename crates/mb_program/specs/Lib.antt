@@ -10,6 +10,7 @@ pub mod Lines
 pub mod Ends
 pub mod Tidy
 pub mod Causes
+pub mod TwoRuns
 pub mod Runs
 pub mod Compares
 pub mod Said

@@ -1,10 +1,11 @@
 -- What running guests up to a snapshot, or on from one, gave.
-use Rattle.std.specs.Prelude.{◌≡◌, ℕ, ◌/◌, ◌%◌, ◌^◌, ◌<◌, All, List, [], ◌∷◌, length, map, Option, None, Result, Ok, Err}
+use Rattle.std.specs.Prelude.{◌≡◌, ℕ, ◌/◌, All, List, [], ◌∷◌, length, map, Option, None, Result, Ok, Err}
 use Rattle.mb_model.specs.declared.kept.Kept.{Kept}
 use Rattle.mb_model.specs.Keeping.{list_of}
 use Rattle.vm_disk.specs.Disk.{DiskState}
 use Rattle.mb_saved.specs.Saved.{IsLawful, Saved}
 use Rattle.vm_saved.specs.Begins.{beginning}
+use Rattle.vm_saved.specs.Lawful.{IsGuests}
 use Rattle.vm_saved.specs.Saved.{machine_of}
 use Rattle.vm_snapshot.specs.declared.plan.SnapGuest.{SnapGuest}
 use Rattle.def_guests.specs.Turns.{no_steps}
@@ -38,13 +39,9 @@ shown_by members = map (λ (m : Member). shown_of m.script m.guest.machine) memb
 abbrev pub shown_text : (number : ℕ) → ShownGuest → Text
 shown_text number g = guest_text number (length g.seen.ram / 1024) g.kept g.script g.seen g.disk
 
--- RAM is of whole KiB, and its size a number of 32 bits.
-pub record IsWhole (m : Member) : Type 0 where
-  pub units : length m.guest.machine.world.ram % 1024 ≡ 0
-  pub few : length m.guest.machine.world.ram < 2 ^ 32
-
-abbrev pub AreWhole : List Member → Type 0
-AreWhole members = All IsWhole members
+-- RAM, registers and devices of each are such as a guest's can be.
+abbrev pub AreGuests : List Member → Type 0
+AreGuests members = All IsGuests (machines_of members)
 
 -- ---- up to a snapshot
 
@@ -53,7 +50,7 @@ pub record HaveStopped (steps : ℕ) (s : SessionAtStart) (native native_after :
     : Type 0 where
   pub fits : Fits s
   pub shown : shown_by (members_in host) ≡ map shown_alone (all_cut_to steps s.guests)
-  pub whole : AreWhole (members_in host)
+  pub guests : AreGuests (members_in host)
   pub counted : IsCounted (save_shown steps s).steps native native_after
 
 -- They have stopped there; or there is no host, and nothing is counted.

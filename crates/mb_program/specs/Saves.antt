@@ -54,6 +54,12 @@ save_shown steps s = record {
       (after_order (turn_each 1 steps s.guests) (map member_at_start s.guests)));
 }
 
+-- What `save` wrote of a session: it fits on its board, and of its snapshot the grammar holds.
+pub record IsSaved (steps : ℕ) (s : SessionAtStart) : Type 0 where
+  pub session : IsSession s
+  pub fits : Fits s
+  pub lawful : IsSnapshot (s.board / 1024) s.slice (map shown_alone (all_cut_to steps s.guests))
+
 -- ---- resume
 
 -- a guest of a snapshot, which takes so many steps more
@@ -113,10 +119,8 @@ gone_on_shown more slice guests = record {
       (map (λ (guest : GuestAtStart). resumed guest.script more (alone rule_k guest)) guests)));
 }
 
--- A text that `save` writes of a session, which fits on its board, and of which the grammar of snapshots holds.
+-- A text that `save` wrote of a session, no longer than a snapshot may be.
 pub record IsSavedText (steps : ℕ) (s : SessionAtStart) (text : Text) : Type 0 where
-  pub session : IsSession s
-  pub fits : Fits s
+  pub saved : IsSaved steps s
   pub written : text ≡ (save_shown steps s).text
   pub few : length text ≤ MOST_SNAPSHOT_BYTES
-  pub lawful : IsSnapshot (s.board / 1024) s.slice (map shown_alone (all_cut_to steps s.guests))

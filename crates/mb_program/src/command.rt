@@ -1,6 +1,6 @@
 //! The commands.
 
-ghost use Rattle.std.specs.Prelude.{◌≡◌, map, option_map, string_bytes};
+ghost use Rattle.std.specs.Prelude.{◌≡◌, Some, map, option_map, string_bytes};
 ghost use Rattle.def_runs.specs.Native.{NativeState};
 ghost use Rattle.mb_words.specs.Values.{file_said};
 ghost use Rattle.mb_words.specs.Words.{asked_by, assembly, bare, comparison, debugging, disassembly, hosting};
@@ -8,9 +8,10 @@ ghost use Rattle.mb_words.specs.Words.{resuming, resumption_said, saving, saving
 ghost use Rattle.mb_words.specs.Words.{debugged_said, disk_said, excerpt_said, run_said, session_said, source_said};
 ghost use Rattle.mb_program.specs.Answers.{answer_to};
 ghost use Rattle.mb_program.specs.Around.{around_of};
-ghost use Rattle.mb_program.specs.Causes.{HostsNothing};
+ghost use Rattle.mb_program.specs.Causes.{HasSaved, HostsNothing};
 ghost use Rattle.mb_program.specs.Direct.{HasRoomToRun};
 ghost use Rattle.mb_program.specs.Ends.{CommandEnds, Ends};
+ghost use Rattle.mb_program.specs.Lines.{status_of};
 ghost use Rattle.mb_program.specs.Said.{disk_named};
 
 use crate::compared::show_compared;
@@ -162,8 +163,10 @@ fn run_save<F: Shelf, O: Sink>(
     native: &mut Native,
 ) -> End
     requires room { HasRoomToRun native.old }
-    ensures { CommandEnds (answer_to (saving (saving_said save.now)))
+    ensures ends { CommandEnds (answer_to (saving (saving_said save.now)))
         (around_of F.Shelf O.Sink shelf.old shelf.new out.old out.new native.old native.new) result }
+    ensures saved { HasSaved (Some (saving (saving_said save.now)))
+        (around_of F.Shelf O.Sink shelf.old shelf.new out.old out.new native.old native.new) (status_of result) }
 {
     match read_session(alloc, shelf, save.session) {
         Ok(ordered) => show_saved(alloc, ordered.session, save.steps, out, native),
@@ -201,6 +204,9 @@ pub fn run_words<F: Shelf, O: Sink>(
     requires room { HasRoomToRun native.old }
     ensures ends { Ends (asked_by (map string_bytes words.now))
         (around_of F.Shelf O.Sink shelf.old shelf.new out.old out.new native.old native.new) result }
+    // What `save` wrote is lawful.
+    ensures saved { HasSaved (asked_by (map string_bytes words.now))
+        (around_of F.Shelf O.Sink shelf.old shelf.new out.old out.new native.old native.new) (status_of result) }
     // A command that runs no guests counts nothing.
     ensures unhosted { HostsNothing (asked_by (map string_bytes words.now)) → native.new ≡ native.old }
 {

@@ -1,18 +1,20 @@
 //! The guests of a session, saved.
 
-ghost use Rattle.std.specs.Prelude.{◌≡◌, ◌≤◌, ◌/◌, IfOk, IfSome, Some, length};
+ghost use Rattle.std.specs.Prelude.{◌≡◌, ◌≤◌, ◌/◌, All, IfOk, IfSome, Some, length};
 ghost use Rattle.mb_outside.specs.Prints.{Prints};
+ghost use Rattle.mb_saved.specs.Saved.{CanBeKept};
 ghost use Rattle.vm_guest.specs.Session.{IsSession};
 ghost use Rattle.vm_slices.specs.Members.{numbered};
 ghost use Rattle.vm_slices.specs.Places.{members_in};
-ghost use Rattle.vm_snapshot.specs.Shown.{snapshot_text};
+ghost use Rattle.vm_snapshot.specs.Shown.{snapshot_text, CanBeTold};
 ghost use Rattle.mb_program.specs.Answers.{if_it_fits};
 ghost use Rattle.mb_program.specs.Around.{sink_seen};
 ghost use Rattle.mb_program.specs.Direct.{HasRoomToRun};
 ghost use Rattle.mb_program.specs.Headline.{texts_from};
 ghost use Rattle.mb_program.specs.Ends.{IsGiven};
-ghost use Rattle.mb_program.specs.Saves.{save_shown, turn_each};
-ghost use Rattle.mb_program.specs.Saved.{AreWhole, RunsTo, kept_by, shown_by, shown_text};
+ghost use Rattle.mb_program.specs.Lines.{status_of};
+ghost use Rattle.mb_program.specs.Saves.{save_shown, turn_each, IsSaved};
+ghost use Rattle.mb_program.specs.Saved.{AreGuests, RunsTo, kept_by, shown_by, shown_text};
 
 use crate::end::End;
 use arrayvec::ArrayVec;
@@ -24,8 +26,11 @@ use std::alloc::Global;
 use vm_slices::{Host, OpenFault, Session, SessionGuest};
 use vm_snapshot::{write_guest, write_head};
 
+/// How many entries a guest keeps at most.
+const MOST_KEPT: usize = GUEST_CAPACITY as usize;
+
 /// What a guest keeps.
-type AllKept = ArrayVec<Kept, 256>;
+type AllKept = ArrayVec<Kept, MOST_KEPT>;
 
 /// One turn of so many steps for each guest.
 fn turns_of(alloc: Global, guests: &[SessionGuest], steps: u32) -> Result<Vec<Turn>, Memory>
@@ -60,7 +65,8 @@ fn run_to(
 /// What the guest of this number keeps, the oldest first.
 fn kept_of(host: &Host, guest: u8) -> AllKept
     requires { (1 ≤ guest) × (guest ≤ length (members_in host.now)) }
-    ensures { numbered guest (kept_by (members_in host.now)) ≡ Some result.items }
+    ensures kept { numbered guest (kept_by (members_in host.now)) ≡ Some result.items }
+    ensures lawful { CanBeKept result.items }
 {
     let _ = host.kept(guest, 0);
     let mut all = AllKept::new();
@@ -76,10 +82,11 @@ fn kept_of(host: &Host, guest: u8) -> AllKept
 /// Writes a guest's lines.
 fn write_saved<O: Sink>(host: &Host, guest: u8, out: &mut O) -> Result<(), SinkFault>
     requires number { (1 ≤ guest) × (guest ≤ length (members_in host.now)) }
-    requires whole { AreWhole (members_in host.now) }
-    ensures { IfSome (numbered guest (shown_by (members_in host.now))) (λ shown.
+    requires guests { AreGuests (members_in host.now) }
+    ensures prints { IfSome (numbered guest (shown_by (members_in host.now))) (λ shown.
         Prints (O.taken out.old) (O.taken out.new) (O.faults out.old) (O.faults out.new)
         (shown_text guest shown) result) }
+    ensures told { IfSome (numbered guest (shown_by (members_in host.now))) CanBeTold }
 {
     let outcome = host.outcome(guest);
     write_guest(
@@ -95,9 +102,10 @@ fn write_saved<O: Sink>(host: &Host, guest: u8, out: &mut O) -> Result<(), SinkF
 
 /// Writes the lines of all guests in their order.
 fn write_guests<O: Sink>(host: &Host, out: &mut O) -> Result<(), SinkFault>
-    requires { AreWhole (members_in host.now) }
-    ensures { Prints (O.taken out.old) (O.taken out.new) (O.faults out.old) (O.faults out.new)
+    requires { AreGuests (members_in host.now) }
+    ensures prints { Prints (O.taken out.old) (O.taken out.new) (O.faults out.old) (O.faults out.new)
         (texts_from shown_text 1 (shown_by (members_in host.now))) result }
+    ensures told { IfOk result (λ done. All CanBeTold (shown_by (members_in host.now))) }
 {
     for index in 0..host.guest_count() {
         write_saved(host, index + 1, out)?;
@@ -112,9 +120,10 @@ fn write_snapshot<O: Sink>(
     slice: u32,
     out: &mut O,
 ) -> Result<(), SinkFault>
-    requires { AreWhole (members_in host.now) }
-    ensures { Prints (O.taken out.old) (O.taken out.new) (O.faults out.old) (O.faults out.new)
+    requires { AreGuests (members_in host.now) }
+    ensures prints { Prints (O.taken out.old) (O.taken out.new) (O.faults out.old) (O.faults out.new)
         (snapshot_text board slice (shown_by (members_in host.now))) result }
+    ensures told { IfOk result (λ done. All CanBeTold (shown_by (members_in host.now))) }
 {
     write_head(board, slice, host.guest_count(), out)?;
     write_guests(host, out)
@@ -131,8 +140,9 @@ pub(crate) fn show_saved<O: Sink>(
 ) -> End
     requires session { IsSession session }
     requires room { HasRoomToRun native.old }
-    ensures { IsGiven (if_it_fits session (save_shown steps session))
+    ensures given { IsGiven (if_it_fits session (save_shown steps session))
         (sink_seen O.Sink out.old) (sink_seen O.Sink out.new) native.old native.new result }
+    ensures saved { status_of result ≡ 0 → IsSaved steps session }
 {
     let board = session.board() / 1024;
     let slice = session.slice();

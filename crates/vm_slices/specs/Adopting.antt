@@ -1,8 +1,8 @@
 -- Guests of which one goes on from a saved machine.
-use Rattle.std.specs.Prelude.{◌≡◌, ℕ, ◌≤◌, List, length, map, slice_get, Option}
+use Rattle.std.specs.Prelude.{◌≡◌, ℕ, List, length, map, slice_get, Option}
 use Rattle.mb_model.specs.declared.kept.Kept.{Kept}
-use Rattle.mb_model.specs.Keeping.{list_of, rule_k}
-use Rattle.mb_saved.specs.Saved.{Saved}
+use Rattle.mb_model.specs.Keeping.{list_of}
+use Rattle.mb_saved.specs.Saved.{CanBeKept, Saved}
 use Rattle.def_machine.specs.Machine.{Entries}
 use Rattle.def_guests.specs.Turns.{no_steps}
 use Rattle.def_guests.specs.Rounds.{Member}
@@ -32,6 +32,6 @@ scripts_of members = map (λ (m : Member). m.script) members
 abbrev pub kept_at : (place : ℕ) → List Member → List (Option Kept)
 kept_at place members = map (λ (m : Member). slice_get (list_of 0 m.guest.machine.world.kept) place) members
 
--- it keeps no more than there is room for
-abbrev pub KeepsFew : Member → Type 0
-KeepsFew m = length (list_of 0 m.guest.machine.world.kept) ≤ rule_k.capacity
+-- what it keeps can be saved
+abbrev pub KeepsLawfully : Member → Type 0
+KeepsLawfully m = CanBeKept (list_of 0 m.guest.machine.world.kept)

@@ -10,7 +10,7 @@ ghost use Rattle.vm_slices.specs.Fit.{need_of, Fits};
 ghost use Rattle.vm_guest.specs.Counting.{tally_in};
 ghost use Rattle.mb_script.specs.Plan.{IsTurnOf};
 ghost use Rattle.mb_script.specs.declared.sizes.TheConstants.{MOST_GUESTS};
-ghost use Rattle.vm_slices.specs.Adopting.{kept_at, scripts_of, KeepsFew};
+ghost use Rattle.vm_slices.specs.Adopting.{kept_at, scripts_of, KeepsLawfully};
 ghost use Rattle.vm_slices.specs.Counting.{AreCounted, HasRoom, RisesBy};
 ghost use Rattle.vm_slices.specs.Members.{member_at_start, machine_at_end, tally_at_end, after_rounds, IsBounded};
 ghost use Rattle.vm_slices.specs.Members.{machines_of, tallies_of, devices_of, shown_of, numbered};
@@ -222,7 +222,7 @@ impl Host {
     pub fn kept(&self, guest: u8, place: u32) -> Option<Kept>
         requires { (1 ≤ guest) × (guest ≤ length (members_in self.now)) }
         ensures entry { numbered guest (kept_at place (members_in self.now)) ≡ Some result }
-        ensures few { IfSome (numbered guest (members_in self.now)) KeepsFew }
+        ensures kept { IfSome (numbered guest (members_in self.now)) KeepsLawfully }
     {
         let host_guest = &self.guests[guest as usize - 1];
         host_guest.guest.kept(place)

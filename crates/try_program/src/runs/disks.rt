@@ -103,6 +103,10 @@ S9030000FC\n";
 /// The contents of a disk: a long at the start of block 1.
 pub(super) const CONTENTS: &[u8] = b"S1070200AABBCCDDE8\nS9030000FC\n";
 
+/// A guest that stores a block on its disk.
+pub(super) const SESSION_WITH_DISK: &[u8] =
+    b"session 2\nboard 192\nslice 1000\nguest 64 40 store.s19 -\ndisk 1 2 -\n";
+
 /// A guest with a disk, and parts of the text that it comes to.
 struct Case<'a> {
     image: &'a str,
@@ -288,7 +292,7 @@ macro_rules! refused_session {
 }
 
 #[rattlefmt::skip]
-static ROWS: [Row<'static>; 33] = [
+static ROWS: [Row<'static>; 34] = [
     Row {
         what: "two guests, of which neither sees the other's disk",
         words: &["mbx host s.txt"],
@@ -311,6 +315,18 @@ guest 2 retired 1 privileged 0 trapped 0 denied 4 traced 0 entered 0 idle 0 refi
         session: b"session 2\nboard 320\nslice 3\nguest 64 10 store.s19 -\nguest 64 9 store.s19 -\ndisk 2 1 -\n",
         status: 0,
         parts: &[b"guest 1 same\nguest 2 same\n"],
+        diag: b"",
+    },
+    Row {
+        what: "a disk is saved with its guest",
+        words: &["mbx save s.txt --steps 3"],
+        session: SESSION_WITH_DISK,
+        status: 0,
+        parts: &[
+            b"\nguests 1\nram 64\nkept 0\ninput 0\nguest 1\nstate running\nsteps 3\n",
+            b"\nend\ndisk 1 blocks 2\nBLOCK 00000001\nRESULT 00000000\nPOSITION 00000000\n1122334400000000",
+            b"\n00000200 11223344000000000000000000000000\nend\n",
+        ],
         diag: b"",
     },
     refused_words!("mbx bare hello.s19 --ram 64 --steps 10 --contents disk.s19"),

@@ -1,5 +1,6 @@
 //! Guests that are saved, and snapshots that are resumed.
 
+use super::disks::SESSION_WITH_DISK;
 use super::sessions::{SESSION_OF_ONE, run_session};
 use super::{HELLO_TEXT, ROOMY, Ran};
 use std::alloc::Global;
@@ -27,8 +28,9 @@ const NO_GUESTS: &[u8] = b"snapshot 1\nboard 192\nslice 1000\n";
 
 /// Sessions whose guests are saved at each of their first steps, and at later ones.
 #[rattlefmt::skip]
-static SESSIONS: [&[u8]; 4] = [
+static SESSIONS: [&[u8]; 5] = [
     b"session 1\nboard 192\nslice 1000\nguest 64 40 hello.s19 -\n",
+    SESSION_WITH_DISK,
     b"session 1\nboard 448\nslice 3\nguest 64 40 loop.s19 typed.txt\nguest 64 40 stale.s19 -\n\
 guest 64 40 hello.s19 -\n",
     b"session 2\nboard 320\nslice 7\nguest 64 40 store.s19 -\nguest 64 40 resets.s19 typed.txt\n\

@@ -1,7 +1,7 @@
 use Rattle.std.proofs.Common.{◌+◌, ◌-◌, List, sym, subst, arith}
 use Rattle.mb_model.specs.declared.kept.Kept.{Kept}
 use Rattle.vm_slices.specs.Places.{members_in}
-use Rattle.mb_program.proofs.KeptLemmas.{FirstKept, all_full, first_more}
+use Rattle.mb_program.proofs.KeptLemmas.{FirstKept, all_full, can_be_kept, first_more}
 use Rattle.mb_program.proofs.saved.kept_of.Goals as goal
 
 pub loop-place-preserved : goal.loop-place-preserved
@@ -16,7 +16,11 @@ loop-place-preserved c =
       len = omega (arith, count, pushed);
     }
 
-pub returns : goal.returns
-returns c =
-    all_full (members_in c.args.host.now) (c.args.guest - 1) c.loop-place.place c.loop-place.all.items (omega arith) (omega arith) c.kept.ensures.few
+pub returns-clause-kept : goal.returns-clause-kept
+returns-clause-kept c =
+    all_full (members_in c.args.host.now) (c.args.guest - 1) c.loop-place.place c.loop-place.all.items (omega arith) (omega arith) c.kept.ensures.kept
     c.loop-place.invariant.first
+
+pub returns-clause-lawful : goal.returns-clause-lawful
+returns-clause-lawful c =
+    can_be_kept (members_in c.args.host.now) (c.args.guest - 1) c.loop-place.all.items c.kept.ensures.kept (returns-clause-kept c)

@@ -5,7 +5,7 @@ use Rattle.def_guests.specs.Rounds.{Member}
 use Rattle.vm_slices.specs.Members.{member_at_start}
 use Rattle.vm_slices.specs.Places.{members_in}
 use Rattle.mb_program.proofs.RunLemmas.{fits_so, not_prepared}
-use Rattle.mb_program.proofs.SaveLemmas.{counted_so, shown_so, stopped_so, turns_so, whole_so}
+use Rattle.mb_program.proofs.SaveLemmas.{counted_so, guests_so, shown_so, stopped_so, turns_so}
 use Rattle.mb_program.proofs.saved.run_to.Goals as goal
 
 -- there are as many members as guests
@@ -30,7 +30,7 @@ returns c =
     record {
       fits = fits_so s (Ok c.in_ok-host.host) c.in_ok-host.host _ refl c.in_ok-host.ensures.oversize;
       shown = shown_so c.args.steps s.guests after is;
-      whole = whole_so c.args.steps s.guests after c.requires.session.guests is;
+      guests = guests_so c.args.steps s.guests after c.requires.session.guests is;
       counted = counted_so c.args.steps s.guests before after _ _ c.in_ok-host.ensures.members is
           (rw (c.deref.ensures.value, c.in_ok-turns.ensures, c.guests.ensures) at c.run_order.ensures.counts);
     }

@@ -7,7 +7,7 @@ pub returns-clause-causes : goal.returns-clause-causes
 returns-clause-causes g c =
     let diag = diag_of g.E.Sink c.args.diag.now c.tell.new.diag in
     rw c.status.ensures (causes_so _ _ diag c.run_words-end.result c.run_words-end.ensures.ends
-    (put_so c.tell.result diag _ c.tell.ensures) c.run_words-end.ensures.unhosted)
+    (put_so c.tell.result diag _ c.tell.ensures) c.run_words-end.ensures.saved c.run_words-end.ensures.unhosted)
 
 pub returns-clause-headline : goal.returns-clause-headline
 returns-clause-headline g c =

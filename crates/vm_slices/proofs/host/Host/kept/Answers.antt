@@ -3,7 +3,7 @@ use Rattle.std.specs.Prelude.{slice_get, IfSome}
 use Rattle.mb_model.specs.Keeping.{list_of}
 use Rattle.std.proofs.lemmas.List.{length-map}
 use Rattle.def_guests.specs.Rounds.{Member}
-use Rattle.vm_slices.specs.Adopting.{kept_at, KeepsFew}
+use Rattle.vm_slices.specs.Adopting.{kept_at, KeepsLawfully}
 use Rattle.vm_slices.specs.Members.{numbered}
 use Rattle.vm_slices.specs.Places.{HostState, member_of, members_in}
 use Rattle.vm_slices.proofs.Adopted.{held_at}
@@ -24,8 +24,8 @@ returns-clause-entry c =
     c.index-host_guest.ensures
     ∙ ap Some (sym c.kept.ensures.entry)
 
-pub returns-clause-few : goal.returns-clause-few
-returns-clause-few c =
+pub returns-clause-kept : goal.returns-clause-kept
+returns-clause-kept c =
     let gs = c.self.inside.guests.items in
     let ram = c.self.inside.board.world.ram in
     let count : length (members_in c.args.self.now) ≡ length gs =
@@ -33,5 +33,5 @@ returns-clause-few c =
     let first = c.requires.0 in
     let last = c.requires.1 in
     let less : c.args.guest - 1 < length gs = omega arith in
-    subst (λ (h : HostState). IfSome (numbered c.args.guest (members_in h)) KeepsFew) c.self.view_is
-    (held_at KeepsFew gs ram (c.args.guest - 1) c.index-host_guest.result.now less c.index-host_guest.ensures c.kept.ensures.few)
+    subst (λ (h : HostState). IfSome (numbered c.args.guest (members_in h)) KeepsLawfully) c.self.view_is
+    (held_at KeepsLawfully gs ram (c.args.guest - 1) c.index-host_guest.result.now less c.index-host_guest.ensures c.kept.ensures.kept)
