@@ -119,7 +119,12 @@ HostsNothing None = ⊤
 HostsNothing (Some (bare run)) = ⊤
 HostsNothing (Some (assembly name)) = ⊤
 HostsNothing (Some (disassembly excerpt)) = ⊤
-HostsNothing (Some _) = ⊥
+HostsNothing (Some (hosting name)) = ⊥
+HostsNothing (Some (comparison name)) = ⊥
+HostsNothing (Some (generation workload)) = ⊥
+HostsNothing (Some (debugging d)) = ⊥
+HostsNothing (Some (saving p)) = ⊥
+HostsNothing (Some (resuming r)) = ⊥
 
 -- Where the words ask to save a session whose files are told, what was written with status 0 is lawful.
 abbrev pub HasSaved : Option Asked → Around → (status : ℕ) → Type 0
