@@ -39,6 +39,13 @@ no_more cases i passed now case found difference within is tells some counted al
     let same : passed + more ≡ now + more = omega arith in
     subst (λ (n : ℕ). Passed cases n) same (all more here)
 
+-- what passes is among the cases that were run
+pub one_more_among : (i passed now : ℕ) → now ≡ passed + 1 → passed ≤ i → now ≤ i + 1
+one_more_among i passed now counted among = omega arith
+
+pub no_more_among : (i passed now : ℕ) → now ≡ passed → passed ≤ i → now ≤ i + 1
+no_more_among i passed now counted among = omega arith
+
 -- no case is left
 pub all_counted : (cases : List Case) (i passed : ℕ) → length cases ≤ i
     → ((more : ℕ) → Passed (drop i cases) more → Passed cases (passed + more)) → Passed cases passed

@@ -1,6 +1,6 @@
 //! A board on which cases are run.
 
-ghost use Rattle.std.specs.Prelude.{◌≡◌, ◌↔◌, length, vec_len, false, IsNone, []};
+ghost use Rattle.std.specs.Prelude.{◌≡◌, ◌↔◌, length, vec_len, false, IsNone, IfOk, []};
 ghost use Rattle.mb_devices.specs.Devices.{built};
 ghost use Rattle.try_cases.specs.declared.chunk.TheConstants.{RAM_SIZE};
 
@@ -11,7 +11,7 @@ use crate::machine::{compare, load, put_all, run};
 use mb_board::Board;
 use mb_outside::Memory;
 use mb_script::Script;
-use std::alloc::Global;
+use std::alloc::{AllocError, Global};
 
 /// A board, and RAM as a case has it. Cases are run on it one after the other.
 #[derive(Drop)]
@@ -26,14 +26,30 @@ pub struct Bench {
     ghost untyped: { script ≡ [] },
 }
 
+/// RAM that is 0.
+fn zeros(alloc: Global) -> Result<Vec<u8>, AllocError>
+    ensures { IfOk result (λ ram. vec_len ram ≡ RAM_SIZE) }
+{
+    vec![in alloc; 0; RAM_SIZE as usize]
+}
+
+/// A script in which nothing is typed.
+fn nothing_typed(alloc: Global) -> Script
+    ensures { result ≡ [] }
+{
+    Script::new(Vec::new(alloc))
+}
+
 impl Bench {
     ghost use Rattle.try_cases.specs.Cases.{Passes};
 
     pub fn new(alloc: Global) -> Result<Bench, Memory> {
+        let ram = zeros(alloc)?;
+        let board = Board::new(alloc, RAM_SIZE)?;
         Ok(Bench {
-            board: Board::new(alloc, RAM_SIZE)?,
-            ram: vec![in alloc; 0; RAM_SIZE as usize]?,
-            script: Script::new(Vec::new(alloc)),
+            board,
+            ram,
+            script: nothing_typed(alloc),
         })
     }
 

@@ -67,12 +67,12 @@ pub fn first_register(case: &Case, got: &Registers) -> Option<Difference>
 
 /// The first byte of RAM that is another.
 fn byte_difference(got: &[u8], said: &[u8]) -> Option<Difference> {
-    for (at, (got, said)) in got.iter().zip(said).enumerate() {
-        if got != said {
+    for at in 0..got.len().min(said.len()) {
+        if got[at] != said[at] {
             return Some(Difference::Byte {
                 at,
-                got: *got,
-                said: *said,
+                got: got[at],
+                said: said[at],
             });
         }
     }

@@ -1,12 +1,22 @@
-//! The words of a line. Numbers are hexadecimal.
+//! The words of a line. Most numbers are hexadecimal.
 
 use crate::fault::CaseFault;
 use std::alloc::Global;
 use std::str::SplitWhitespace;
 
+/// Whether a word is another one.
+pub fn is_word(word: &str, other: &str) -> bool {
+    word == other
+}
+
 /// The next word.
 pub fn next_word<'a>(words: &mut SplitWhitespace<'a>) -> Result<&'a str, CaseFault> {
     words.next().ok_or(CaseFault::Missing)
+}
+
+/// The next word as a number, in decimal.
+pub fn next_number(words: &mut SplitWhitespace<'_>) -> Result<u32, CaseFault> {
+    Ok(next_word(words)?.parse()?)
 }
 
 /// A long.

@@ -9,12 +9,19 @@ use crate::head::Form;
 use crate::reading::read_case;
 use mb_lines::Lines;
 use std::alloc::{AllocError, Global};
+use std::fmt;
 
 /// A line that is no case, though it is no comment.
 #[derive(Drop)]
 pub struct BadLine {
     pub number: u32,
     pub fault: CaseFault,
+}
+
+impl fmt::Display for BadLine {
+    fn fmt<W: fmt::Write>(&self, f: &mut fmt::Formatter<W>) -> fmt::Result {
+        write!(f, "line {}: {}", self.number, self.fault)
+    }
 }
 
 /// What a file has: its cases, and the lines that are none.

@@ -2,12 +2,13 @@
 
 use crate::chunk::Chunk;
 use crate::fault::CaseFault;
-use crate::fields::next_word;
+use crate::fields::{is_word, next_number, next_word};
 use crate::memory::Stretches;
 use crate::registers::{COUNT, Registers};
 use crate::single::{self, Single};
 use crate::system::{self, System};
 use std::alloc::Global;
+use std::str::SplitWhitespace;
 
 /// How the lines of a file are written.
 #[derive(Clone, Copy)]
@@ -38,25 +39,34 @@ pub struct Head<'a> {
 
 /// `both` where two machines agree in all that is compared, `one` where one of them is followed.
 fn read_followed(word: &str) -> Result<(), CaseFault> {
-    match word.as_bytes() {
-        b"both" | b"one" => Ok(()),
-        _ => Err(CaseFault::Missing),
+    if is_word(word, "both") || is_word(word, "one") {
+        Ok(())
+    } else {
+        Err(CaseFault::Missing)
+    }
+}
+
+/// What gives the machine its registers, which are put in their places.
+fn read_set_up(
+    fields: &mut SplitWhitespace<'_>,
+    form: Form,
+    before: &mut Registers,
+) -> Result<SetUp, CaseFault> {
+    match form {
+        Form::Single => Ok(SetUp::Single(Single::read(fields, before)?)),
+        Form::System => Ok(SetUp::System(System::read(fields, before)?)),
     }
 }
 
 /// `NUMBER KIND both|one WORDS`, and then what the form has.
 pub fn read_head(part: &str, form: Form) -> Result<Head<'_>, CaseFault> {
     let mut fields = part.split_whitespace();
-    let number = next_word(&mut fields)?;
-    let number: u32 = number.parse()?;
+    let number = next_number(&mut fields)?;
     let kind = next_word(&mut fields)?;
     read_followed(next_word(&mut fields)?)?;
     let words = next_word(&mut fields)?;
     let mut before = [0; COUNT];
-    let set_up = match form {
-        Form::Single => SetUp::Single(Single::read(&mut fields, &mut before)?),
-        Form::System => SetUp::System(System::read(&mut fields, &mut before)?),
-    };
+    let set_up = read_set_up(&mut fields, form, &mut before)?;
     if fields.next().is_some() {
         return Err(CaseFault::Further);
     }
@@ -67,6 +77,56 @@ pub fn read_head(part: &str, form: Form) -> Result<Head<'_>, CaseFault> {
         before,
         set_up,
     })
+}
+
+impl SetUp {
+    /// Adds what stands in RAM before a case of which this is the second part.
+    fn add_to(
+        &self,
+        alloc: Global,
+        image: &mut Stretches,
+        before: &Registers,
+        words: &[u8],
+        part: &str,
+    ) -> Result<(), CaseFault> {
+        match self {
+            SetUp::Single(single) => {
+                image.add_part(alloc, part)?;
+                single.add_above(alloc, image, before, words)
+            }
+            SetUp::System(system) => {
+                system.add_below(alloc, image, before)?;
+                image.add_part(alloc, part)?;
+                system.add_above(alloc, image, before)
+            }
+        }
+    }
+
+    /// How many steps are taken, those of the case included.
+    fn steps(&self) -> u32 {
+        match self {
+            SetUp::Single(_) => single::SET_UP_STEPS + 1,
+            SetUp::System(system) => {
+                system::SET_UP_STEPS + u32::from(system.steps) + u32::from(system.interrupted)
+            }
+        }
+    }
+
+    /// Whether the timer asks for an interrupt.
+    fn interrupts(&self) -> bool {
+        match self {
+            SetUp::Single(_) => false,
+            SetUp::System(system) => system.interrupted,
+        }
+    }
+
+    /// Whether the status register is stacked, with bits that may be either.
+    fn stacks(&self) -> bool {
+        match self {
+            SetUp::Single(single) => single.vector.is_some(),
+            SetUp::System(_) => false,
+        }
+    }
 }
 
 /// What runs a case.
@@ -90,29 +150,12 @@ pub fn setting_of(
     part: &str,
 ) -> Result<Setting, CaseFault> {
     let mut image = Stretches::new(alloc);
-    match &head.set_up {
-        SetUp::Single(single) => {
-            image.add_part(alloc, part)?;
-            single.add_above(alloc, &mut image, &head.before, words)?;
-            Ok(Setting {
-                image: image.chunks,
-                steps: single::SET_UP_STEPS + 1,
-                interrupted: false,
-                stacks: single.vector.is_some(),
-            })
-        }
-        SetUp::System(system) => {
-            system.add_below(alloc, &mut image, &head.before)?;
-            image.add_part(alloc, part)?;
-            system.add_above(alloc, &mut image, &head.before)?;
-            Ok(Setting {
-                image: image.chunks,
-                steps: system::SET_UP_STEPS
-                    + u32::from(system.steps)
-                    + u32::from(system.interrupted),
-                interrupted: system.interrupted,
-                stacks: false,
-            })
-        }
-    }
+    head.set_up
+        .add_to(alloc, &mut image, &head.before, words, part)?;
+    Ok(Setting {
+        image: image.chunks,
+        steps: head.set_up.steps(),
+        interrupted: head.set_up.interrupts(),
+        stacks: head.set_up.stacks(),
+    })
 }

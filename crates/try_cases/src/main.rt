@@ -32,11 +32,25 @@ use difference::Difference;
 use file::read_file;
 use head::Form;
 use std::rt::Files;
-use std::{fs, io};
+use std::{fmt, fs, io};
 
-/// Tells a case that does not pass.
-fn tell(rt: &impl Print, file: &str, case: &Case, found: Difference) -> io::Result<()> {
-    println!(rt; "{file} {case}: {found}")
+/// A case that does not pass.
+#[derive(Drop)]
+struct Failed<'a> {
+    file: &'a str,
+    case: &'a Case,
+    found: Difference,
+}
+
+impl fmt::Display for Failed<'_> {
+    fn fmt<W: fmt::Write>(&self, f: &mut fmt::Formatter<W>) -> fmt::Result {
+        write!(f, "{} {}: {}", self.file, self.case, self.found)
+    }
+}
+
+/// Tells it.
+fn tell(rt: &impl Print, failed: &Failed<'_>) -> io::Result<()> {
+    println!(rt; "{failed}")
 }
 
 /// Runs cases one after the other, and tells those that do not pass: how many pass.
@@ -48,7 +62,7 @@ fn run_cases(rt: &impl Print, file: &str, bench: &mut Bench, cases: &[Case]) -> 
     for case in cases {
         match bench.try_case(case) {
             None => passed += 1,
-            Some(found) => tell(rt, file, case, found)?,
+            Some(found) => tell(rt, &Failed { file, case, found })?,
         }
     }
     Ok(passed)
@@ -83,7 +97,7 @@ fn run_file(
     ensure!(text.len() < 1 << 31, "{path} is too long");
     let file = read_file(rt.alloc(), form, &text)?;
     for line in &file.bad {
-        println!(rt; "{name} line {}: {}", line.number, line.fault)?;
+        println!(rt; "{name} {line}")?;
     }
     let passed = run_cases(rt, name, bench, &file.cases)?;
     println!(rt; "{name}: {passed} passed")?;

@@ -2,7 +2,7 @@
 
 use crate::case::Case;
 use crate::fault::CaseFault;
-use crate::fields::{read_bytes, read_long, split_mask};
+use crate::fields::{is_word, read_bytes, read_long, split_mask};
 use crate::head::{Form, Setting, read_head, setting_of};
 use crate::memory::Stretches;
 use crate::registers::{COUNT, ISP, Registers, SR, place_of};
@@ -19,7 +19,7 @@ struct After {
 fn read_change(after: &mut After, word: &str) -> Result<(), CaseFault> {
     let (name, rest) = word.split_once('=').ok_or(CaseFault::Missing)?;
     let (digits, mask) = split_mask(rest);
-    if matches!(name.as_bytes(), b"MASK") {
+    if is_word(name, "MASK") {
         after.unsaid[SR] = read_long(digits)?;
         return Ok(());
     }

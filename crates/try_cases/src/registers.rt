@@ -4,6 +4,7 @@ ghost use Rattle.std.specs.Prelude.{◌≡◌, ◌<◌, IfSome};
 ghost use Rattle.try_cases.specs.Cases.{registers_of};
 ghost use Rattle.try_cases.specs.declared.registers.TheConstants.{COUNT};
 
+use crate::fields::is_word;
 use mb_instr::Regs;
 use mb_model::Cpu;
 use mb_port::Mmu;
@@ -16,7 +17,7 @@ pub type Registers = [u32; COUNT];
 
 /// The names of the registers, each at its place.
 #[rattlefmt::skip]
-pub const NAMES: [&str; COUNT] = [
+pub static NAMES: [&str; COUNT] = [
     "D0", "D1", "D2", "D3", "D4", "D5", "D6", "D7",
     "A0", "A1", "A2", "A3", "A4", "A5", "A6",
     "USP", "ISP", "MSP", "PC", "SR",
@@ -68,7 +69,7 @@ pub fn place_of(name: &str) -> Option<usize>
     ensures { IfSome result (λ place. place < COUNT) }
 {
     for place in 0..COUNT {
-        if NAMES[place] == name {
+        if is_word(name, NAMES[place]) {
             return Some(place);
         }
     }

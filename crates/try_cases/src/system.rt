@@ -4,7 +4,7 @@ use crate::case::PERIOD;
 use crate::chunk::RAM_SIZE;
 use crate::code::{add_long, add_with_long, add_word};
 use crate::fault::CaseFault;
-use crate::fields::{next_long, next_longs, next_status, next_word};
+use crate::fields::{is_word, next_long, next_longs, next_status, next_word};
 use crate::memory::Stretches;
 use crate::registers::{A0, COUNT, D0, ISP, ITT0, MSP, PC, Registers, SR, TC, URP, USP, VBR};
 use mb_instr::MASTER;
@@ -146,7 +146,7 @@ static GROUPS: [(usize, usize); 6] = [
 fn read_interrupted(word: Option<&str>) -> Result<bool, CaseFault> {
     match word {
         None => Ok(false),
-        Some(word) if matches!(word.as_bytes(), b"IRQ") => Ok(true),
+        Some(word) if is_word(word, "IRQ") => Ok(true),
         Some(_) => Err(CaseFault::Further),
     }
 }

@@ -1,5 +1,5 @@
 use Rattle.std.proofs.Common.{arith}
-use Rattle.try_cases.proofs.PassedLemmas.{one_more, no_more, all_counted}
+use Rattle.try_cases.proofs.PassedLemmas.{one_more, no_more, one_more_among, no_more_among, all_counted}
 use Rattle.try_cases.proofs.run_cases.Goals.{in-None, in-Some+in_ok-tell-in-Some}
 use Rattle.try_cases.proofs.run_cases.Goals as goal
 
@@ -11,13 +11,13 @@ loop-case-preserved g c =
         passed = one_more c.args.cases.now c.loop-case.case-index c.loop-case.passed c.match-try_case.passed c.case-item.result
             c.try_case.result c.loop-case-test.true c.case-item.is c.try_case.ensures w.in-None.is counted
             c.loop-case.invariant.passed;
-        among = omega arith;
+        among = one_more_among c.loop-case.case-index c.loop-case.passed c.match-try_case.passed counted among;
       })
       | in-Some+in_ok-tell-in-Some w ↦ (let counted = w.passed-is in record {
         passed = no_more c.args.cases.now c.loop-case.case-index c.loop-case.passed c.match-try_case.passed c.case-item.result
             c.try_case.result _ c.loop-case-test.true c.case-item.is c.try_case.ensures w.in-Some.is counted
             c.loop-case.invariant.passed;
-        among = omega arith;
+        among = no_more_among c.loop-case.case-index c.loop-case.passed c.match-try_case.passed counted among;
       })
     ]
 
