@@ -13,21 +13,23 @@ mod missed;
 mod relay;
 mod saving;
 
-use anyhow::bail;
+use anyhow::anyhow;
 use cases::CASES;
 use constructed::{full_console_loses, oldest_of_all_goes};
 use examples::EXAMPLES;
 use missed::Missed;
 use relay::Laps;
 
+/// Which guest has missed something.
+fn fault_of(name: &str, missed: Missed) -> anyhow::Error {
+    anyhow!("{name}: {missed}")
+}
+
 /// Tells how often a guest was saved, and how it stood in the end.
 fn tell(rt: &impl Print, name: &str, laps: Result<Laps, Missed>) -> anyhow::Result<()> {
     match laps {
-        Ok(laps) => println!(rt;
-            "{name}: saved {} times, {:?} after {} steps",
-            laps.saved, laps.state, laps.steps
-        )?,
-        Err(missed) => bail!("{name}: {missed}"),
+        Ok(laps) => println!(rt; "{name}: {laps}")?,
+        Err(missed) => return Err(fault_of(name, missed)),
     }
     Ok(())
 }
@@ -36,7 +38,7 @@ fn tell(rt: &impl Print, name: &str, laps: Result<Laps, Missed>) -> anyhow::Resu
 fn pass(rt: &impl Print, name: &str, passed: Result<(), Missed>) -> anyhow::Result<()> {
     match passed {
         Ok(()) => println!(rt; "{name}")?,
-        Err(missed) => bail!("{name}: {missed}"),
+        Err(missed) => return Err(fault_of(name, missed)),
     }
     Ok(())
 }

@@ -1,23 +1,49 @@
 //! What a guest that goes on has missed.
 
-use std::alloc::AllocError;
-use thiserror::Error;
+use std::alloc::{AllocError, AllocFailed};
+use std::fmt;
 
 /// What a guest that goes on has missed.
-#[derive(Debug, Drop, Error)]
+#[derive(Clone, Copy)]
 pub enum Missed {
-    #[error("it does not begin")]
     Begins,
-    #[error("what is saved of it is not lawful")]
     Lawful,
-    #[error("it shows something else")]
     Shown,
-    #[error("it keeps something else")]
     Kept,
-    #[error("other steps are counted")]
     Counted,
-    #[error("another guest shows something else")]
     Beside,
-    #[error("memory ran out")]
-    Memory(#[from(alloc)] AllocError),
+    Memory,
+}
+
+impl Missed {
+    /// What is told of it.
+    fn text(self) -> &'static str {
+        match self {
+            Missed::Begins => "it does not begin",
+            Missed::Lawful => "what is saved of it is not lawful",
+            Missed::Shown => "it shows something else",
+            Missed::Kept => "it keeps something else",
+            Missed::Counted => "other steps are counted",
+            Missed::Beside => "another guest shows something else",
+            Missed::Memory => "memory ran out",
+        }
+    }
+}
+
+impl fmt::Display for Missed {
+    fn fmt<W: fmt::Write>(&self, f: &mut fmt::Formatter<W>) -> fmt::Result {
+        f.write_str(self.text())
+    }
+}
+
+impl From<AllocError> for Missed {
+    fn from(_: AllocError) -> Missed {
+        Missed::Memory
+    }
+}
+
+impl<T: Drop> From<AllocFailed<T>> for Missed {
+    fn from(_: AllocFailed<T>) -> Missed {
+        Missed::Memory
+    }
 }

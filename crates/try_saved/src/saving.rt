@@ -25,7 +25,7 @@ fn lines_of(alloc: Global, ram: &[u8]) -> Result<Vec<RamLine>, AllocError> {
     for row in ram.chunks_exact(16) {
         let mut bytes = [0u8; 16];
         bytes.copy_from_slice(row);
-        if bytes != [0u8; 16] {
+        if bytes.iter().any(|byte| *byte != 0) {
             lines.push(RamLine { at, bytes })?;
         }
         at = at.wrapping_add(16);
