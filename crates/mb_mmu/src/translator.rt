@@ -1,6 +1,6 @@
 //! Where a reference leads, as far as no table is searched.
 
-ghost use Rattle.std.specs.Prelude.{◌≡◌, ◌/◌, ◌<◌, IfOk, IfSome, true};
+ghost use Rattle.std.specs.Prelude.{◌≡◌, ◌/◌, ◌<◌, IfOk, IfSome, true, false};
 ghost use Rattle.mb_port.specs.Flushes.{NamesPage};
 ghost use Rattle.mb_port.specs.Registers.{with_mmu_register};
 ghost use Rattle.mb_model.specs.Keeping.{NamesPages, entry_for, filled, flushed, rule_a};
@@ -8,6 +8,7 @@ ghost use Rattle.mb_model.specs.Pages.{page_of as page_number};
 ghost use Rattle.def_machine.specs.Access.{by_entry as by_kept_entry};
 ghost use Rattle.def_machine.specs.declared.reference.Reference.{Reference};
 ghost use Rattle.def_machine.specs.declared.reference.Settled.TheVariants.{To};
+ghost use Rattle.mb_mmu.specs.MicroTlb.{nothing};
 ghost use Rattle.mb_mmu.specs.Modes.{is_off};
 ghost use Rattle.mb_mmu.specs.State.{at_reset, settled_by};
 ghost use Rattle.mb_mmu.specs.Sound.{IsAccess, LeadsIntoRam};
@@ -32,22 +33,37 @@ pub struct Translator {
     /// Where accesses led to last, so that most need not look at what is kept. A register that is written and a flush
     /// empty it, and a fill takes from it what stands where its class does.
     recent: MicroTlb,
+    /// Whether something may stand there.
+    remembers: bool,
     /// The bytes of RAM.
     ram: u32,
 }
 
 impl Model for Translator {
-    ghost use Rattle.std.specs.Prelude.{◌≡◌};
+    ghost use Rattle.std.specs.Prelude.{◌≡◌, false};
     ghost use Rattle.mb_mmu.specs.State.{Translation};
     ghost use Rattle.mb_mmu.specs.Modes.{mode_of};
+    ghost use Rattle.mb_mmu.specs.MicroTlb.{nothing};
     ghost use Rattle.mb_mmu.specs.Sound.{IsSound};
 
     ghost Value = { Translation };
 
     ghost view = { λ t. record { mmu = t.mmu; kept = t.kept; ram = t.ram } };
 
-    ghost invariant = { λ t. (t.mode ≡ mode_of t.mmu)
+    ghost invariant = { λ t. (t.mode ≡ mode_of t.mmu) × (t.remembers ≡ false → t.recent ≡ nothing)
         × IsSound (record { mmu = t.mmu; kept = t.kept; ram = t.ram }) t.recent };
+}
+
+/// Empties a micro-TLB in which something may stand, or nothing does.
+fn forget(recent: &mut MicroTlb, remembers: &mut bool)
+    requires { remembers.old ≡ false → recent.old ≡ nothing }
+    ensures empty { recent.new ≡ nothing }
+    ensures forgotten { remembers.new ≡ false }
+{
+    if *remembers {
+        *recent = MicroTlb::new();
+        *remembers = false;
+    }
 }
 
 impl Translator {
@@ -62,6 +78,7 @@ impl Translator {
             mode: Mode::Direct,
             kept,
             recent,
+            remembers: false,
             ram,
         })
     }
@@ -73,7 +90,7 @@ impl Translator {
         self.mmu = MMU_AT_RESET;
         self.mode = Mode::Direct;
         self.kept.clear();
-        self.recent = MicroTlb::new();
+        forget(&mut self.recent, &mut self.remembers);
     }
 
     /// The registers.
@@ -89,7 +106,7 @@ impl Translator {
     {
         self.mmu.set(which, value);
         self.mode = mode_of(&self.mmu);
-        self.recent = MicroTlb::new();
+        forget(&mut self.recent, &mut self.remembers);
     }
 
     /// Keeps an entry for a side.
@@ -98,7 +115,9 @@ impl Translator {
         ensures { self.new ≡ record self.old { kept = filled rule_a code k self.old.kept } }
     {
         self.kept.fill(code, k);
-        self.recent.drop_page(code, k.page);
+        if self.remembers {
+            self.recent.drop_page(code, k.page);
+        }
     }
 
     /// Drops entries of both sides.
@@ -107,7 +126,7 @@ impl Translator {
         ensures { self.new ≡ record self.old { kept = flushed what self.old.kept } }
     {
         self.kept.flush(what);
-        self.recent = MicroTlb::new();
+        forget(&mut self.recent, &mut self.remembers);
     }
 
     /// Point 3: what the kept entry of its page says.
@@ -161,6 +180,7 @@ impl Translator {
         ensures { self.new ≡ self.old }
     {
         self.recent.set(r, place);
+        self.remembers = true;
     }
 
     /// Remembers where an access leads, if its page lies whole in RAM.
