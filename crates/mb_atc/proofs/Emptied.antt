@@ -5,7 +5,7 @@ use Rattle.mb_port.specs.declared.types.Flush.TheVariants.{All}
 use Rattle.mb_model.specs.declared.kept.Kept.{Kept}
 use Rattle.mb_model.specs.Keeping.{KeptLists, flushed, flushed_in}
 
-none_in : (kept : List Kept) → flushed_in All kept ≡ []
+pub none_in : (kept : List Kept) → flushed_in All kept ≡ []
 none_in [] = refl
 none_in (k ∷ kept) = none_in kept
 

@@ -64,10 +64,18 @@ fn fill_set(set: &mut Set, k: Kept)
     set.push(k);
 }
 
+/// Drops entries of a set: all of them at once, or those that are covered.
+#[inline(always)]
+#[tactic(auto, using(crate::proofs::Emptied::none_in))]
 fn flush_set(set: &mut Set, what: Flush)
     ensures { set.new.items ≡ flushed_in what set.old.items }
 {
-    set.retain(|k| !k.is_covered(what));
+    match what {
+        Flush::All => set.clear(),
+        Flush::AllLocal | Flush::Page(..) | Flush::PageLocal(..) => {
+            set.retain(|k| !k.is_covered(what));
+        }
+    }
 }
 
 impl Atc {
