@@ -24,33 +24,30 @@ pub(crate) struct Places {
     second: ArrayVec<Place, MOST_PIECES>,
 }
 
-/// Checks `left` bytes from `at` on for writing, in pieces. Where each stands comes behind the places so far.
+/// Checks `len` bytes from `at` on for writing, in pieces. Where each stands comes behind the places so far.
 fn probe_bytes<P: Port>(
     at: u32,
-    left: u8,
+    len: u8,
     places: &mut ArrayVec<Place, MOST_PIECES>,
     port: &mut P,
 ) -> Result<(), Fault>
-    requires room { length places.old.items + length (cut left at left) ≤ 17 }
+    requires room { length places.old.items + length (cut len at len) ≤ 17 }
     requires open { All (IsOpen (P.exists (P.rest port.old))) places.old.items }
-    ensures means { run P.bus (probe_pieces_of Space.Super (cut left at left) places.old.items) (P.world port.old)
+    ensures means { run P.bus (probe_pieces_of Space.Super (cut len at len) places.old.items) (P.world port.old)
         ≡ (probed result places.new.items, P.world port.new) }
     ensures open { OnOk result (All (IsOpen (P.exists (P.rest port.new))) places.new.items) }
-    ensures bytes { OnOk result (byte_count places.new.items ≡ byte_count places.old.items + left) }
+    ensures bytes { OnOk result (byte_count places.new.items ≡ byte_count places.old.items + len) }
     ensures rest { P.rest port.new ≡ P.rest port.old }
 {
-    if left == 0 {
-        return Ok(());
+    let mut next = at;
+    let mut left = len;
+    while left > 0 {
+        let piece = first_piece(next, left);
+        places.push(port.probe(Space::Super, piece)?);
+        next = next.wrapping_add(u32::from(piece.len));
+        left -= piece.len;
     }
-    let piece = first_piece(at, left);
-    let place = port.probe(Space::Super, piece)?;
-    places.push(place);
-    probe_bytes(
-        at.wrapping_add(u32::from(piece.len)),
-        left - piece.len,
-        places,
-        port,
-    )
+    Ok(())
 }
 
 /// Checks a frame for writing. The answer is where its pieces stand.
