@@ -1,14 +1,14 @@
--- A call whose reference is known to lead to a piece in RAM: it reads or writes that piece, and nothing else happens.
-use Rattle.std.proofs.Common.{◌≡◌, ◌∙◌, ap, sym, ℕ, true, false, length}
-use Rattle.std.specs.Prelude.{Option, Some, Ok}
+-- A call whose reference is known to lead to a piece in RAM: it reads, writes or checks that piece, and nothing else happens.
+use Rattle.std.proofs.Common.{◌≡◌, ◌∙◌, ap, sym, ℕ, Bool, true, false, length}
+use Rattle.std.specs.Prelude.{Option, Some, None, Ok, if◌then◌else◌}
 use Rattle.mb_model.specs.Keeping.{Rule}
 use Rattle.mb_walk.specs.Memory.{number_at, with_number}
 use Rattle.def_machine.specs.declared.reference.Reference.{Reference}
 use Rattle.def_machine.specs.World.{World}
 use Rattle.def_machine.specs.Access.{translated}
 use Rattle.def_machine.specs.Bus.{read_at, read_by, faulting, fault_of, place_at, written_at, written_by, wrote}
-use Rattle.def_machine.specs.Places.{in_ram, taken, stored}
-use Rattle.def_machine.proofs.BusLemmas.{taken_memory, stored_memory}
+use Rattle.def_machine.specs.Places.{checked, in_ram, taken, stored}
+use Rattle.def_machine.proofs.BusLemmas.{taken_memory, stored_memory, takes_memory}
 
 pub read_at_once : (rule : Rule) (w : World) (q r : Reference) (at len value : ℕ) → q ≡ r → translated rule q w ≡ (Some at, w)
     → in_ram (length w.ram) at len ≡ true → value ≡ number_at w.ram at len → read_by rule r len taken w ≡ (Ok value, w)
@@ -16,6 +16,13 @@ read_at_once rule w q r at len value same leads inside is =
     ap (λ (t : Option ℕ × World). read_at r len taken t.0 t.1) (ap (λ (x : Reference). translated rule x w) (sym same) ∙ leads)
     ∙ ap (λ (t : Option ℕ × World). faulting t (fault_of r len false)) (taken_memory w (place_at at len) inside)
     ∙ ap (λ (n : ℕ). (Ok n, w)) (sym is)
+
+pub checked_at_once : (rule : Rule) (w : World) (q r : Reference) (at len : ℕ) → q ≡ r → translated rule q w ≡ (Some at, w)
+    → in_ram (length w.ram) at len ≡ true → read_by rule r len checked w ≡ (Ok (place_at at len), w)
+checked_at_once rule w q r at len same leads inside =
+    ap (λ (t : Option ℕ × World). read_at r len checked t.0 t.1) (ap (λ (x : Reference). translated rule x w) (sym same) ∙ leads)
+    ∙ ap (λ (b : Bool). faulting ((if b then Some (place_at at len) else None), w) (fault_of r len false))
+    (takes_memory w (place_at at len) inside)
 
 pub written_at_once : (rule : Rule) (w after : World) (q r : Reference) (at len value : ℕ) → q ≡ r → translated rule q w ≡ (Some at, w)
     → in_ram (length w.ram) at len ≡ true → after ≡ record w { ram = with_number w.ram at len value }

@@ -64,13 +64,13 @@ impl Port for BoardBus {
     #[inline(always)]
     fn quick_fetch(&self, space: Space, at: u32) -> Option<u16> {
         let at = self.found_at_once(Reference::fetching(space, at), 2)?;
-        Some(self.number(at, 2) as u16)
+        Some(self.number(at as usize, 2) as u16)
     }
 
     #[inline(always)]
     fn quick_read(&self, space: Space, piece: Piece) -> Option<u32> {
         let at = self.found_at_once(Reference::reading(space, piece.at), piece.len)?;
-        Some(self.number(at, piece.len))
+        Some(self.number(at as usize, piece.len))
     }
 
     #[inline(always)]
@@ -78,7 +78,7 @@ impl Port for BoardBus {
         let Some(at) = self.found_at_once(Reference::writing(space, piece.at), piece.len) else {
             return false;
         };
-        self.set_number(at, piece.len, value);
+        self.set_number(at as usize, piece.len, value);
         true
     }
 
@@ -106,6 +106,9 @@ impl Port for BoardBus {
 
     fn probe(&mut self, space: Space, piece: Piece) -> Result<Place, Fault> {
         let r = Reference::writing(space, piece.at);
+        if let Some(at) = self.found_at_once(r, piece.len) {
+            return Ok(Place { at, len: piece.len });
+        }
         let Some(at) = self.translated(r) else {
             return Err(r.refused(piece.len, true));
         };

@@ -16,9 +16,11 @@ use mb_port::{Flush, Place, Space};
 use mb_walk::{Found, search, transparent};
 
 impl BoardBus {
-    /// Points 4 and 5: the tables are searched, and what is found is kept. The reference is given by its fields.
+    /// Points 4 and 5: the tables are searched, and what is found is kept, and remembered if it leads into RAM. The
+    /// reference is given by its fields.
     #[inline(never)]
     fn searched(&mut self, code: bool, space: Space, at: u32, write: bool) -> Option<u32>
+        requires { IsAccess (record { code = code; space = space; at = at; write = write }) }
         ensures means { (result, self.new) ≡ searched rule_a self.old
             (record { code = code; space = space; at = at; write = write }) }
         ensures size { length self.new.ram ≡ length self.old.ram }
@@ -34,6 +36,7 @@ impl BoardBus {
         match search(self, root, r.space, r.at, r.write, big) {
             Found::Entry(k, _) => {
                 self.translator.fill(r.code, k);
+                self.translator.settle(r);
                 through(&k, r)
             }
             Found::Invalid | Found::BusError => None,
@@ -55,10 +58,10 @@ impl BoardBus {
         }
     }
 
-    /// Where in RAM so many bytes stand that a reference is known to lead to. `None` says nothing.
+    /// The place in RAM of so many bytes that a reference is known to lead to. `None` says nothing.
     #[inline(always)]
     #[tactic(auto, unfolding(def_machine::specs::Access::translated))]
-    pub fn found_at_once(&self, r: Reference, len: u8) -> Option<usize>
+    pub fn found_at_once(&self, r: Reference, len: u8) -> Option<u32>
         requires access { IsAccess r }
         requires piece { IsPiece (record { at = r.at; len = len }) }
         ensures leads { IfSome result (λ at. translated rule_a r self.now ≡ (Some at, self.now)) }
@@ -68,10 +71,10 @@ impl BoardBus {
             if !self.in_ram(Place { at: r.at, len }) {
                 return None;
             }
-            return Some(r.at as usize);
+            return Some(r.at);
         }
         let at = self.translator.place(r)?;
-        Some(at as usize)
+        Some(at)
     }
 
     /// What PTEST drops of a page, and of the other half of it where pages have 8 KiB.
