@@ -6,3 +6,4 @@ pub mod Spellings
 pub mod UserRuns
 pub mod AtOnce
 pub mod Followed
+pub mod Calm

@@ -39,3 +39,11 @@ run_of-split rule script (suc a) b k m e = elim (cases_Bool (takes_steps m.state
 pub stepped-by : (rule : Rule) (script : Entries) (s : Machine) (finish : Finish) (t : Machine) → (finish, t) ≡ stepping rule script s
     → t ≡ stepped rule script s
 stepped-by rule script s finish t h = ap (λ (r : Finish × Machine). r.1) h
+
+-- one step more
+pub one_more : (rule : Rule) (script : Entries) (from m after : Machine) (finish : Finish) (n : ℕ) → m ≡ run_of rule script n from
+    → takes_steps m.state ≡ true → (finish, after) ≡ stepping rule script m → after ≡ run_of rule script (n + 1) from
+one_more rule script from m after finish n so_far going step =
+    stepped-by rule script m finish after step ∙ sym (run_of-zero rule script 0 (stepped rule script m) refl)
+    ∙ sym (run_of-step rule script 1 0 m refl going) ∙ ap (run_of rule script 1) so_far
+    ∙ run_of-split rule script n 1 (n + 1) from refl

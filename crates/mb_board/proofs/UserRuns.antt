@@ -1,5 +1,5 @@
 -- A run in user mode by its first step.
-use Rattle.std.proofs.Common.{◌≡◌, ◌∙◌, ℕ, zero, suc, ◌+◌, ◌<◌, [], arith, refl, ap, sym, subst, Bool, true, false}
+use Rattle.std.proofs.Common.{◌≡◌, ◌∙◌, ℕ, zero, suc, ◌+◌, ◌-◌, ◌<◌, [], arith, refl, ap, sym, subst, Bool, true, false}
 use Rattle.std.specs.Prelude.{if◌then◌else◌}
 use Rattle.mb_instr.specs.declared.registers.Plain.{Plain}
 use Rattle.mb_instr.specs.Registers.{is_supervisor, plain_of}
@@ -13,8 +13,8 @@ use Rattle.def_machine.specs.World.{World}
 use Rattle.def_machine.specs.Machine.{Machine, processed, state_after, takes_steps, with_devices, with_finish}
 use Rattle.def_runs.specs.declared.RunEnd.{RunEnd}
 use Rattle.def_runs.specs.declared.RunEnd.TheVariants.{Counted, Exit, Gone}
-use Rattle.def_runs.specs.Native.{NativeState, Ran, user_step, user_run, ran_by, about_to_run, goes_on, EndsBy}
-use Rattle.mb_board.specs.Fits.{IsFit, FitsAlong}
+use Rattle.def_runs.specs.Native.{NativeState, Ran, user_step, user_run, ran_by, about_to_run, goes_on, with_retired, EndsBy}
+use Rattle.mb_board.specs.Fits.{Continues, IsFit, FitsAlong}
 use Rattle.def_runs.proofs.RunEnds.{run-none, run-on, run-off, goes-on, runs-end_by_cause}
 
 not_counted : (e : RunEnd) → (e ≡ Counted → ⊥) → goes_on e ≡ false
@@ -109,6 +109,59 @@ one_step r = let after = ran_by (user_step r.machine) r in ends_so (goes_on afte
 
 pub fits_once : (r : Ran) → IsFit (plain_of r.machine.cpu.regs) → FitsAlong 1 r
 fits_once r fit = (fit, λ on. tt)
+
+-- ---- runs that go on
+
+pub continues_here : (n k : ℕ) (r : Ran) → k ≡ n → Continues n r k r
+continues_here n k r same = record { run = ap (λ (j : ℕ). user_run j r) same; fit = subst (λ (j : ℕ). FitsAlong j r) same }
+
+pub continues_on : (n k j : ℕ) (from at behind : Ran) → Continues n from k at → Continues k at j behind → Continues n from j behind
+continues_on n k j from at behind first second =
+    record { run = second.run ∙ first.run; fit = λ later. first.fit (second.fit later) }
+
+-- behind a step
+pub continues_behind : (k n : ℕ) (r : Ran) (m : Machine) (native : NativeState) (b before : Plain) → k ≡ n + 1 → 0 < n
+    → ran_of Counted m native b ≡ ran_by (user_step r.machine) r → IsFit (plain_of r.machine.cpu.regs)
+    → Continues k r n (about_to_run m native before)
+continues_behind k n r m native b before count some is fit =
+    let by : k ≡ suc n = omega arith in record {
+      run = any_before n m native before b some ∙ (steps-on k n r Counted m native b by is refl).run;
+      fit = λ later. fits-on k n r Counted m native b by is refl fit (fits_any n m native before b later);
+    }
+
+-- a step with which the run ends
+pub ends_behind : (n k : ℕ) (from at ran : Ran) → Continues n from k at → 0 < k → ran ≡ ran_by (user_step at.machine) at → (ran.end ≡ Counted → ⊥)
+    → ran ≡ user_run n from
+ends_behind n k from at ran continues some is left = step-off k (k - 1) at ran (omega arith) is left ∙ continues.run
+
+pub fit_behind : (n k : ℕ) (from at ran : Ran) → Continues n from k at → 0 < k → ran ≡ ran_by (user_step at.machine) at → (ran.end ≡ Counted → ⊥)
+    → IsFit (plain_of at.machine.cpu.regs) → FitsAlong n from
+fit_behind n k from at ran continues some is left fit = continues.fit (fits-off k (k - 1) at ran (omega arith) is left fit)
+
+-- the last step
+pub ends_last : (n k : ℕ) (from at ran : Ran) → Continues n from k at → k ≡ 1 → ran ≡ ran_by (user_step at.machine) at → ran ≡ user_run n from
+ends_last n k from at ran continues one is =
+    is ∙ sym (one_step at) ∙ ap (λ (j : ℕ). user_run j at) (sym one) ∙ continues.run
+
+pub fit_last : (n k : ℕ) (from at : Ran) → Continues n from k at → k ≡ 1 → IsFit (plain_of at.machine.cpu.regs) → FitsAlong n from
+fit_last n k from at continues one fit = continues.fit (subst (λ (j : ℕ). FitsAlong j at) (sym one) (fits_once at fit))
+
+-- a step behind which the run goes on counts
+pub goes_counted : (r : Ran) (m : Machine) (native : NativeState) (before : Plain) → ran_of Counted m native before ≡ ran_by (user_step r.machine) r
+    → StepsOn 1 0 r m native before
+goes_counted r m native before is = steps-on 1 0 r Counted m native before refl is refl
+
+-- ---- a calm step
+
+pub calm_ran : (m after : Machine) (native counted : NativeState) (from before : Plain) → takes_steps after.state ≡ true
+    → (finish.Went, after) ≡ user_step m → from ≡ plain_of m.cpu.regs → counted ≡ with_retired from (plain_of after.cpu.regs) native
+    → ran_of Counted after counted from ≡ ran_by (user_step m) (about_to_run m native before)
+calm_ran m after native counted from before going step begins is =
+    ap (λ (n : NativeState). ran_of Counted after n from) is
+    ∙ ap (λ (p : Plain). ran_of Counted after (with_retired p (plain_of after.cpu.regs) native) p) begins
+    ∙ ap (λ (b : Bool). ran_of (if b then Counted else Gone) after (with_retired (plain_of m.cpu.regs) (plain_of after.cpu.regs) native)
+    (plain_of m.cpu.regs)) (sym going)
+    ∙ ap (λ (s : Finish × Machine). ran_by s (about_to_run m native before)) step
 
 -- ---- a step at which the timer stands still
 

@@ -4,3 +4,4 @@ pub mod Beside
 pub mod Spelling
 pub mod Fits
 pub mod Idle
+pub mod Calm

@@ -9,9 +9,10 @@ ghost use Rattle.mb_devices.specs.Devices.{passed, IsNotDue};
 ghost use Rattle.def_machine.specs.Machine.{run_of, stepping, takes_steps};
 ghost use Rattle.def_runs.specs.Free.{IsFreeRun};
 ghost use Rattle.mb_board.specs.Arrivals.{IsNext};
+ghost use Rattle.mb_board.specs.Calm.{IsCalm};
 ghost use Rattle.mb_board.specs.Idle.{IsHeld};
 
-use crate::board::Core;
+use crate::board::{CALM, Core};
 use crate::bus::BoardBus;
 use crate::receiving::place_behind;
 use crate::states::state_of;
@@ -92,6 +93,62 @@ impl Core {
         self.step_uncounted::<true>()
     }
 
+    /// The same, by no short form.
+    #[inline(always)]
+    fn step_by_row(&mut self) -> Finish
+        requires { self.old.steps + 1 < 2 ^ 32 }
+        ensures means { (result, self.new) ≡ stepping rule_a [] self.old }
+        ensures counted { self.new.steps ≡ self.old.steps + 1 }
+        ensures ram { length self.new.world.ram ≡ length self.old.world.ram }
+    {
+        self.steps += 1;
+        self.step_uncounted::<false>()
+    }
+
+    /// Takes calm steps that are carried out at once, at most so many, and does not count them. Gives how many they
+    /// are.
+    #[inline(always)]
+    fn run_at_once(&mut self, limit: u32) -> u32
+        requires calm { IsCalm self.old }
+        ensures within { result ≤ limit }
+        ensures means { record self.new { steps = self.old.steps + result } ≡ run_of rule_a [] result self.old }
+        ensures calm { IsCalm self.new }
+        ensures uncounted { self.new.steps ≡ self.old.steps }
+        ensures ram { length self.new.world.ram ≡ length self.old.world.ram }
+    {
+        let space = self.cpu.space();
+        let mut taken = 0;
+        while taken < limit {
+            match self.step_at_once::<CALM>(space) {
+                Some(_) => taken += 1,
+                None => break,
+            }
+        }
+        taken
+    }
+
+    /// Takes calm steps that are carried out at once, at most so many less one, and one step more. Gives how many steps
+    /// they are.
+    fn run_on_alone(&mut self, limit: u32) -> u32
+        requires some { 0 < limit }
+        requires room { self.old.steps + limit < 2 ^ 32 }
+        requires takes { takes_steps self.old.state ≡ true }
+        ensures some { 0 < result }
+        ensures within { result ≤ limit }
+        ensures means { self.new ≡ run_of rule_a [] result self.old }
+        ensures counted { self.new.steps ≡ self.old.steps + result }
+        ensures ram { length self.new.world.ram ≡ length self.old.world.ram }
+    {
+        if !self.is_calm() {
+            self.step_alone();
+            return 1;
+        }
+        let calm = self.run_at_once(limit - 1);
+        self.steps += calm;
+        self.step_by_row();
+        calm + 1
+    }
+
     /// Whether STOP holds the processor, and no interrupt is asked for that it takes.
     #[inline(always)]
     fn is_held(&self) -> bool
@@ -150,8 +207,7 @@ impl Core {
         }
         let mut left = steps;
         while left > 0 {
-            self.step_alone();
-            left -= 1;
+            left -= self.run_on_alone(left);
             match self.state {
                 RunState::Running => {}
                 RunState::Stopped => left -= self.idle_on(left),

@@ -6,6 +6,7 @@ ghost use Rattle.mb_instr.specs.Registers.{plain_of};
 ghost use Rattle.mb_short.specs.Changed.{Differ};
 ghost use Rattle.mb_model.specs.Keeping.{rule_a};
 ghost use Rattle.mb_model.specs.Seen.{seen_of};
+ghost use Rattle.mb_model.specs.Status.{space_of};
 ghost use Rattle.mb_srec.specs.Image.{all_contents, content_of, LiesBelow};
 ghost use Rattle.mb_walk.specs.Memory.{chunk_from, contents_from, overwritten, with_contents};
 ghost use Rattle.mb_devices.specs.Devices.{idle, restarted};
@@ -18,6 +19,7 @@ ghost use Rattle.def_machine.specs.Machine.{takes_steps, with_ram};
 ghost use Rattle.def_runs.specs.Free.{IsFreeRun};
 ghost use Rattle.def_runs.specs.Native.{user_step};
 ghost use Rattle.mb_board.specs.declared.bus.TheConstants.{MOST_BOARD_BYTES};
+ghost use Rattle.mb_board.specs.Calm.{IsCalm};
 ghost use Rattle.mb_board.specs.State.{board_at_reset, machine_in, with_machine};
 
 use crate::bus::BoardBus;
@@ -28,6 +30,7 @@ use mb_devices::Devices;
 use mb_instr::Plain;
 use mb_model::{Cpu, Outcome, RunState};
 use mb_outside::Memory;
+use mb_port::Space;
 use mb_script::Script;
 use mb_srec::Chunk;
 use mb_step::{Changed, Decoder, Processor, step_at_once, step_by_row, step_in_place};
@@ -38,8 +41,11 @@ use std::marker::Model;
 /// The copy of a step in runs of the bare board.
 const BARE: usize = 0;
 
-/// That in runs for a monitor.
-const NATIVE: usize = 1;
+/// That in its calm steps.
+pub(crate) const CALM: usize = 3;
+
+/// That in calm steps for a monitor.
+pub(crate) const NATIVE: usize = 1;
 
 /// That for steps at which something arrives, or an interrupt is asked for.
 const ASKED: usize = 2;
@@ -169,41 +175,34 @@ impl Core {
         finish
     }
 
-    /// The processor's part of a step that has begun, where no interrupt is asked for and it is carried out at once:
-    /// then the answer is what it may have changed. Else nothing has changed.
+    /// Whether nothing happens at the next steps but their instructions, as long as these are carried out at once.
     #[inline(always)]
-    fn carry_out_at_once(&mut self) -> Option<Changed>
-        ensures means { IfSome result (λ changed.
-            processed rule_a [] self.old ≡ ((Finish.Went, self.new.cpu), self.new.world)) }
-        ensures differ { IfSome result (λ changed.
-            Differ changed (plain_of self.old.cpu.regs) (plain_of self.new.cpu.regs)) }
-        ensures undone { IfNone result (self.new ≡ self.old) }
-        ensures steps { self.new.steps ≡ self.old.steps }
-        ensures state { self.new.state ≡ self.old.state }
-        ensures ram { length self.new.world.ram ≡ length self.old.world.ram }
+    pub(crate) fn is_calm(&self) -> bool
+        ensures { result ≡ true → IsCalm self.now }
     {
-        if self.bus.level() > 0 {
-            return None;
+        match self.state {
+            RunState::Running => {
+                self.bus.is_calm() && !self.cpu.is_stopped() && !self.cpu.is_traced()
+            }
+            RunState::Stopped | RunState::Halted | RunState::Off => false,
         }
-        step_at_once::<_, NATIVE>(&self.decoder, &mut self.cpu, &mut self.bus)
     }
 
-    /// One step at which nothing arrives, and which is not counted, where the timer stands still and it is carried out
-    /// at once: then the answer is what it may have changed. Else nothing has changed.
+    /// A step of a calm machine, which is not counted, where its instruction is carried out at once: then the answer is
+    /// what it may have changed. Else nothing has changed. `space` is that of the processor's accesses.
     #[inline(always)]
-    pub(crate) fn step_at_once(&mut self) -> Option<Changed>
+    pub(crate) fn step_at_once<const COPY: usize>(&mut self, space: Space) -> Option<Changed>
+        requires calm { IsCalm self.old }
+        requires space { space ≡ space_of self.old.cpu }
         ensures means { IfSome result (λ changed. (Finish.Went, self.new) ≡ user_step self.old) }
         ensures differ { IfSome result (λ changed.
             Differ changed (plain_of self.old.cpu.regs) (plain_of self.new.cpu.regs)) }
         ensures undone { IfNone result (self.new ≡ self.old) }
+        ensures calm { IsCalm self.new }
+        ensures space { space_of self.new.cpu ≡ space_of self.old.cpu }
         ensures ram { length self.new.world.ram ≡ length self.old.world.ram }
     {
-        if !self.bus.stands_still() {
-            return None;
-        }
-        let changed = self.carry_out_at_once()?;
-        self.state = state_of(Finish::Went, self.cpu.is_stopped(), self.bus.devices());
-        Some(changed)
+        step_at_once::<_, COPY>(&self.decoder, space, &mut self.cpu, &mut self.bus)
     }
 
     /// One step at which nothing arrives, and which is not counted, by no short form.

@@ -23,6 +23,10 @@ impl Port for Board {
 
     ghost bus = { bus_of rule_a };
 
+    ghost Still = { World };
+
+    ghost still = { λ w. w };
+
     ghost exists = { λ rest place. IsLength place.len };
 
     fn fetch(&mut self, space: Space, at: u32) -> Result<u16, Fault> {

@@ -1,6 +1,6 @@
 //! What the board's bus holds, and what the board does with it beside its calls.
 
-ghost use Rattle.std.specs.Prelude.{◌≡◌, ◌+◌, ◌^◌, ◌<◌, ◌≤◌, length, replicate, if◌then◌else◌, true, IfOk};
+ghost use Rattle.std.specs.Prelude.{◌≡◌, ◌+◌, ◌^◌, ◌<◌, ◌≤◌, length, replicate, if◌then◌else◌, true, false, IfOk};
 ghost use Rattle.mb_model.specs.Keeping.{rule_a};
 ghost use Rattle.mb_walk.specs.Memory.{overwritten};
 ghost use Rattle.mb_devices.specs.Devices.{idle, level_of, restarted, ticked};
@@ -93,7 +93,7 @@ impl BoardBus {
     /// Whether the timer stands still.
     #[inline(always)]
     #[tactic(auto, unfolding(mb_devices::specs::Devices::ticked))]
-    pub fn stands_still(&self) -> bool
+    fn stands_still(&self) -> bool
         ensures { result ≡ true → ticked self.now.devices ≡ self.now.devices }
     {
         self.devices.period() == 0
@@ -114,6 +114,16 @@ impl BoardBus {
         ensures within { result < 8 }
     {
         if aborted { NON_MASKABLE } else { self.level() }
+    }
+
+    /// Whether the timer stands still, no interrupt is asked for and the machine is on.
+    #[inline(always)]
+    pub fn is_calm(&self) -> bool
+        ensures still { result ≡ true → ticked self.now.devices ≡ self.now.devices }
+        ensures unasked { result ≡ true → level_of self.now.devices ≡ 0 }
+        ensures on { result ≡ true → self.now.devices.off ≡ false }
+    {
+        self.stands_still() && self.level() == 0 && !self.is_off()
     }
 
     /// Whether the machine is to be switched off at the end of the step.

@@ -3,6 +3,7 @@
 ghost use Rattle.std.specs.Prelude.{ℕ, length};
 ghost use Rattle.mb_port.specs.Pieces.{IsLength};
 ghost use Rattle.mb_model.specs.Keeping.{rule_a};
+ghost use Rattle.mb_devices.specs.Devices.{DeviceState};
 ghost use Rattle.def_machine.specs.World.{World};
 ghost use Rattle.def_machine.specs.Bus.{bus_of};
 
@@ -21,6 +22,10 @@ impl Port for BoardBus {
     ghost rest = { λ w. length w.ram };
 
     ghost bus = { bus_of rule_a };
+
+    ghost Still = { DeviceState };
+
+    ghost still = { λ w. w.devices };
 
     // what stands nowhere is read as 0, and takes no write
     ghost exists = { λ size place. IsLength place.len };

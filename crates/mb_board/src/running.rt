@@ -1,15 +1,16 @@
 //! Runs in user mode, for a monitor.
 
-ghost use Rattle.std.specs.Prelude.{◌≡◌, ◌≢◌, ◌+◌, ◌^◌, ◌<◌, length, false};
+ghost use Rattle.std.specs.Prelude.{◌≡◌, ◌≢◌, ◌+◌, ◌-◌, ◌^◌, ◌<◌, ◌≤◌, length, true, false};
 ghost use Rattle.mb_instr.specs.Registers.{is_supervisor, plain_of};
-ghost use Rattle.mb_short.specs.Changed.{Differ};
+ghost use Rattle.mb_model.specs.Status.{space_of};
 ghost use Rattle.def_runs.specs.declared.RunEnd.TheVariants.{Counted};
 ghost use Rattle.def_runs.specs.Native.{EndsBy, about_to_run, ended_by, ran_by, user_run, user_step, with_step};
-ghost use Rattle.mb_board.specs.Fits.{FitsAlong};
+ghost use Rattle.mb_board.specs.Calm.{IsCalm};
+ghost use Rattle.mb_board.specs.Fits.{Continues, FitsAlong};
 ghost use Rattle.mb_board.specs.Spelling.{Spell};
 ghost use Rattle.mb_board.specs.State.{ran_to, run_from};
 
-use crate::board::{Board, Core};
+use crate::board::{Board, Core, NATIVE};
 use crate::following::{follow, spelled_on};
 use crate::native::Native;
 use crate::spelling::spelling;
@@ -17,7 +18,7 @@ use def_processor::Finish;
 use def_runs::RunEnd;
 use mb_instr::Plain;
 use mb_model::RunState;
-use mb_step::Changed;
+use mb_port::Space;
 
 impl Core {
     /// How a run in user mode ends with a step that ended so, or that it goes on.
@@ -34,26 +35,17 @@ impl Core {
         }
     }
 
-    /// Counts the step that led here from these registers, changed no more of them than this and ended so. They spelled
-    /// `spelled`, which becomes what the registers spell now.
-    #[inline(always)]
-    fn count(
-        &self,
-        finish: Finish,
-        changed: Changed,
-        before: &Plain,
-        spelled: &mut u64,
-        native: &mut Native,
-    )
+    /// Counts the step that led here from these registers and ended so. They spelled `spelled`, which becomes what the
+    /// registers spell now.
+    fn count(&self, finish: Finish, before: &Plain, spelled: &mut u64, native: &mut Native)
         requires retired { native.old.retired + 1 < 2 ^ 64 }
         requires exceptions { native.old.exceptions + 1 < 2 ^ 64 }
-        requires differ { Differ changed before.now (plain_of self.now.cpu.regs) }
         requires spelled { Spell before.now spelled.old }
         ensures counted { native.new ≡ with_step finish before.now self.now native.old }
         ensures spelled { Spell (plain_of self.now.cpu.regs) spelled.new }
     {
         let beginning = *spelled;
-        *spelled = spelled_on(changed, beginning, before, self.cpu.plain());
+        *spelled = spelling(self.cpu.plain());
         match finish {
             Finish::Went | Finish::Idle => native.retire(beginning, *spelled),
             Finish::Entered(_) if self.takes_steps() => native.except(),
@@ -61,23 +53,83 @@ impl Core {
         }
     }
 
-    /// One step in user mode, and what it may have changed.
+    /// One more step of a run of a calm machine in user mode, where its instruction is carried out at once: then it is
+    /// counted, and the answer is true. Else nothing has changed. `before` has the registers at its beginning, which
+    /// spell `spelled`; both become those at its end.
     #[inline(always)]
-    fn step_in_user_mode(&mut self) -> (Finish, Changed)
-        ensures means { let (finish, changed) = result in (finish, self.new) ≡ user_step self.old }
-        ensures differ { let (finish, changed) = result in
-            Differ changed (plain_of self.old.cpu.regs) (plain_of self.new.cpu.regs) }
+    fn run_on_at_once(
+        &mut self,
+        space: Space,
+        native: &mut Native,
+        before: &mut Plain,
+        spelled: &mut u64,
+    ) -> bool
+        requires calm { IsCalm self.old }
+        requires space { space ≡ space_of self.old.cpu }
+        requires retired { native.old.retired + 1 < 2 ^ 64 }
+        requires before { before.old ≡ plain_of self.old.cpu.regs }
+        requires spelled { Spell before.old spelled.old }
+        ensures means { result ≡ true
+            → record { end = Counted; machine = self.new; native = native.new; before = before.old }
+            ≡ ran_by (user_step self.old) (about_to_run self.old native.old before.old) }
+        ensures undone { result ≡ false → self.new ≡ self.old }
+        ensures uncounted { result ≡ false → native.new ≡ native.old }
+        ensures kept { result ≡ false → before.new ≡ before.old }
+        ensures calm { IsCalm self.new }
+        ensures space { space_of self.new.cpu ≡ space_of self.old.cpu }
+        ensures before { before.new ≡ plain_of self.new.cpu.regs }
+        ensures spelled { Spell before.new spelled.new }
         ensures ram { length self.new.world.ram ≡ length self.old.world.ram }
     {
-        match self.step_at_once() {
-            Some(changed) => (Finish::Went, changed),
-            None => (self.step_apart(), Changed::Any),
+        let Some(changed) = self.step_at_once::<NATIVE>(space) else {
+            return false;
+        };
+        let now = self.cpu.plain();
+        let beginning = *spelled;
+        *spelled = spelled_on(changed, beginning, before, now);
+        native.retire(beginning, *spelled);
+        follow(changed, before, now);
+        true
+    }
+
+    /// Takes calm steps of a run in user mode that are carried out at once, at most so many, and counts them. Gives how
+    /// many they are.
+    #[inline(always)]
+    fn run_calmly(
+        &mut self,
+        limit: u32,
+        native: &mut Native,
+        before: &mut Plain,
+        spelled: &mut u64,
+    ) -> u32
+        requires retired { native.old.retired + limit < 2 ^ 64 }
+        requires before { before.old ≡ plain_of self.old.cpu.regs }
+        requires spelled { Spell before.old spelled.old }
+        ensures within { result ≤ limit }
+        ensures means { (n : _) → limit < n → Continues n (about_to_run self.old native.old before.old)
+            (n - result) (about_to_run self.new native.new before.new) }
+        ensures retired { native.new.retired ≡ native.old.retired + result }
+        ensures exceptions { native.new.exceptions ≡ native.old.exceptions }
+        ensures before { before.new ≡ plain_of self.new.cpu.regs }
+        ensures spelled { Spell before.new spelled.new }
+        ensures ram { length self.new.world.ram ≡ length self.old.world.ram }
+    {
+        if !self.is_calm() {
+            return 0;
         }
+        let space = self.cpu.space();
+        let mut taken = 0;
+        while taken < limit {
+            if !self.run_on_at_once(space, native, before, spelled) {
+                break;
+            }
+            taken += 1;
+        }
+        taken
     }
 
     /// One more step of a run in user mode, which is counted, and how the run ends with it. `before` has the registers
     /// at its beginning, which spell `spelled`; where the run goes on, both become those at its end.
-    #[inline(always)]
     fn run_on(&mut self, native: &mut Native, before: &mut Plain, spelled: &mut u64) -> RunEnd
         requires retired { native.old.retired + 1 < 2 ^ 64 }
         requires exceptions { native.old.exceptions + 1 < 2 ^ 64 }
@@ -90,11 +142,11 @@ impl Core {
         ensures spelled { Spell (plain_of self.new.cpu.regs) spelled.new }
         ensures ram { length self.new.world.ram ≡ length self.old.world.ram }
     {
-        let (finish, changed) = self.step_in_user_mode();
-        self.count(finish, changed, before, spelled, native);
+        let finish = self.step_apart();
+        self.count(finish, before, spelled, native);
         let end = self.ended_by(finish);
         if let RunEnd::Counted = end {
-            follow(changed, before, self.cpu.plain());
+            *before = *self.cpu.plain();
         }
         end
     }
@@ -111,7 +163,7 @@ impl Core {
         ensures ram { length self.new.world.ram ≡ length self.old.world.ram }
     {
         let finish = self.step_apart();
-        self.count(finish, Changed::Any, before, &mut spelled, native);
+        self.count(finish, before, &mut spelled, native);
         self.ended_by(finish)
     }
 
@@ -130,9 +182,11 @@ impl Core {
         }
         *before = *self.cpu.plain();
         let mut spelled = spelling(before);
-        for _ in 1..limit {
+        let mut left = limit - 1;
+        while left > 0 {
+            left -= self.run_calmly(left - 1, native, before, &mut spelled);
             match self.run_on(native, before, &mut spelled) {
-                RunEnd::Counted => {}
+                RunEnd::Counted => left -= 1,
                 end => return end,
             }
         }

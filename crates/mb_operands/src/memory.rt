@@ -85,6 +85,7 @@ pub fn write_at_once<P: Port>(space: Space, at: u32, size: Size, value: u32, por
     ensures done { result ≡ true → run P.bus (write_operand_of space at (bytes_of size) value) (P.world port.old)
         ≡ (Ok tt, P.world port.new) }
     ensures undone { result ≡ false → P.world port.new ≡ P.world port.old }
+    ensures still { P.still (P.world port.new) ≡ P.still (P.world port.old) }
     ensures rest { P.rest port.new ≡ P.rest port.old }
 {
     match whole_piece(at, size) {

@@ -27,6 +27,11 @@ pub trait Port {
     /// What each call answers, and what it makes of the world.
     ghost bus: { Bus World };
 
+    /// What no quick call changes.
+    ghost Still: { Type 0 };
+
+    ghost still: { World → Still };
+
     /// Which physical pieces there are.
     ghost exists: { Rest → Place → Type 0 };
 
@@ -74,6 +79,7 @@ pub trait Port {
         ensures done { result ≡ true
             → bus (Call.Write space piece value) (world self.old) ≡ (Ok tt, world self.new) }
         ensures undone { result ≡ false → world self.new ≡ world self.old }
+        ensures still { still (world self.new) ≡ still (world self.old) }
         ensures rest { rest self.new ≡ rest self.old }
     {
         let _unknown = (space, piece, value);

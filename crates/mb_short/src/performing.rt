@@ -42,6 +42,7 @@ fn perform_pair<P: Port>(short: &Short, space: Space, plain: &mut Plain, port: &
     ensures differ { IfSome result (λ flow. Differ (changed_of short.now) plain.old plain.new) }
     ensures undone { IfNone result (plain.new ≡ plain.old) }
     ensures same { IfNone result (P.world port.new ≡ P.world port.old) }
+    ensures still { P.still (P.world port.new) ≡ P.still (P.world port.old) }
     ensures rest { P.rest port.new ≡ P.rest port.old }
 {
     let word = second_word(space, plain, port)?;
@@ -74,6 +75,7 @@ fn perform_rarer<P: Port>(short: &Short, space: Space, plain: &mut Plain, port: 
     ensures undone { IfNone result (plain.new ≡ plain.old) }
     ensures same { IfNone result (P.world port.new ≡ P.world port.old) }
     ensures always { is_of_registers_by_parts short.now ≡ true → IsSome result }
+    ensures still { P.still (P.world port.new) ≡ P.still (P.world port.old) }
     ensures rest { P.rest port.new ≡ P.rest port.old }
 {
     match *short {
@@ -117,6 +119,7 @@ pub fn perform_short<P: Port, const COPY: usize>(
     ensures undone { IfNone result (plain.new ≡ plain.old) }
     ensures same { IfNone result (P.world port.new ≡ P.world port.old) }
     ensures always { asks_nothing short.now ≡ true → IsSome result }
+    ensures still { P.still (P.world port.new) ≡ P.still (P.world port.old) }
     ensures rest { P.rest port.new ≡ P.rest port.old }
 {
     match *short {

@@ -46,6 +46,7 @@ pub(crate) fn put_memory<P: Port>(
     ensures differ { IfSome result (λ flow. Differ (with_step place Nothing) plain.old plain.new) }
     ensures undone { IfNone result (plain.new ≡ plain.old) }
     ensures same { IfNone result (P.world port.new ≡ P.world port.old) }
+    ensures still { P.still (P.world port.new) ≡ P.still (P.world port.old) }
     ensures rest { P.rest port.new ≡ P.rest port.old }
 {
     let value = value_of(putting, size, plain);
@@ -77,6 +78,7 @@ pub(crate) fn put_near<P: Port>(
     ensures differ { IfSome result (λ flow. Differ Nothing plain.old plain.new) }
     ensures undone { IfNone result (plain.new ≡ plain.old) }
     ensures same { IfNone result (P.world port.new ≡ P.world port.old) }
+    ensures still { P.still (P.world port.new) ≡ P.still (P.world port.old) }
     ensures rest { P.rest port.new ≡ P.rest port.old }
 {
     let value = value_of(putting, size, plain);

@@ -36,6 +36,7 @@ fn call<P: Port>(
     ensures differ { IfSome result (λ flow. Differ (Address 7) after plain.new) }
     ensures undone { IfNone result (plain.new ≡ plain.old) }
     ensures same { IfNone result (P.world port.new ≡ P.world port.old) }
+    ensures still { P.still (P.world port.new) ≡ P.still (P.world port.old) }
     ensures rest { P.rest port.new ≡ P.rest port.old }
 {
     let mut after = after;
@@ -65,6 +66,7 @@ pub(crate) fn call_near<P: Port>(
     ensures differ { IfSome result (λ flow. Differ (Address 7) plain.old plain.new) }
     ensures undone { IfNone result (plain.new ≡ plain.old) }
     ensures same { IfNone result (P.world port.new ≡ P.world port.old) }
+    ensures still { P.still (P.world port.new) ≡ P.still (P.world port.old) }
     ensures rest { P.rest port.new ≡ P.rest port.old }
 {
     let target = target(plain.pc.wrapping_add(2), Branch::Byte(displacement));
@@ -88,6 +90,7 @@ pub(crate) fn call_far<P: Port>(
     ensures differ { IfSome result (λ flow. Differ (Address 7) plain.old plain.new) }
     ensures undone { IfNone result (plain.new ≡ plain.old) }
     ensures same { IfNone result (P.world port.new ≡ P.world port.old) }
+    ensures still { P.still (P.world port.new) ≡ P.still (P.world port.old) }
     ensures rest { P.rest port.new ≡ P.rest port.old }
 {
     let target = target(plain.pc.wrapping_add(2), Branch::Word(displacement));
@@ -127,6 +130,7 @@ fn push_frame<P: Port>(
         ≡ (went flow plain.new, P.world port.new)) }
     ensures undone { IfNone result (plain.new ≡ plain.old) }
     ensures same { IfNone result (P.world port.new ≡ P.world port.old) }
+    ensures still { P.still (P.world port.new) ≡ P.still (P.world port.old) }
     ensures rest { P.rest port.new ≡ P.rest port.old }
 {
     let n = register as usize;
@@ -159,6 +163,7 @@ pub(crate) fn link<P: Port>(
         plain.old (P.world port.old) flow plain.new (P.world port.new)) }
     ensures undone { IfNone result (plain.new ≡ plain.old) }
     ensures same { IfNone result (P.world port.new ≡ P.world port.old) }
+    ensures still { P.still (P.world port.new) ≡ P.still (P.world port.old) }
     ensures rest { P.rest port.new ≡ P.rest port.old }
 {
     let offset = Size::Word.sign_extend(u32::from(displacement));

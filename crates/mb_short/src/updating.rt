@@ -64,6 +64,7 @@ pub(crate) fn update_memory<P: Port>(
     ensures differ { IfSome result (λ flow. Differ (with_step place Nothing) plain.old plain.new) }
     ensures undone { IfNone result (plain.new ≡ plain.old) }
     ensures same { IfNone result (P.world port.new ≡ P.world port.old) }
+    ensures still { P.still (P.world port.new) ≡ P.still (P.world port.old) }
     ensures rest { P.rest port.new ≡ P.rest port.old }
 {
     let at = address(place, size, plain);
@@ -97,6 +98,7 @@ pub(crate) fn update_near<P: Port>(
     ensures differ { IfSome result (λ flow. Differ Nothing plain.old plain.new) }
     ensures undone { IfNone result (plain.new ≡ plain.old) }
     ensures same { IfNone result (P.world port.new ≡ P.world port.old) }
+    ensures still { P.still (P.world port.new) ≡ P.still (P.world port.old) }
     ensures rest { P.rest port.new ≡ P.rest port.old }
 {
     let at = near(base, displacement, plain);

@@ -12,6 +12,7 @@ use Rattle.mb_model.specs.Status.{space_of}
 use Rattle.def_processor.specs.Raise.{is_due}
 use Rattle.def_processor.specs.SystemEnds.{with_registers}
 use Rattle.def_processor.specs.Step.{interrupt_mask}
+use Rattle.mb_step.specs.Modes.{KeepsMode}
 
 -- ---- the rest of the status register stays
 
@@ -49,6 +50,17 @@ pub same_due : (p : Plain) (cpu : Cpu) (flow : Bool) → is_due cpu.regs.sr flow
 same_due p cpu flow =
     ap (λ (n : ℕ). (n % 2 == 1) || ((cpu.regs.sr / 2 ^ 14 % 2 == 1) && flow)) (sym (high15 cpu.regs.sr p.ccr))
     ∙ ap (λ (n : ℕ). (with_ccr cpu.regs.sr p.ccr / 2 ^ 15 % 2 == 1) || ((n % 2 == 1) && flow)) (sym (high14 cpu.regs.sr p.ccr))
+
+mode_by : (p q : Plain) (cpu : Cpu) → KeepsMode (with_registers p cpu) (with_registers q cpu)
+mode_by p q cpu = record {
+  stopped = refl;
+  due = λ flow. sym (same_due q cpu flow) ∙ same_due p cpu flow;
+  space = sym (same_space q cpu) ∙ same_space p cpu;
+}
+
+pub same_mode : (p q : Plain) (cpu before after : Cpu) → with_registers p cpu ≡ before → with_registers q cpu ≡ after → KeepsMode before after
+same_mode p q cpu before after k j =
+    subst (λ (x : Cpu). KeepsMode x after) k (subst (λ (y : Cpu). KeepsMode (with_registers p cpu) y) j (mode_by p q cpu))
 
 pub same_counter : (p : Plain) (cpu : Cpu) → p.pc ≡ (with_registers p cpu).regs.pc
 same_counter p cpu = refl

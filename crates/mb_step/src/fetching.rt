@@ -13,6 +13,7 @@ ghost use Rattle.def_processor.specs.Step.{execute_next_of};
 ghost use Rattle.mb_short.specs.Changed.{changed_of, Differ};
 ghost use Rattle.mb_table.specs.FirstWords.{alone};
 ghost use Rattle.mb_table.specs.Short.{IsShort};
+ghost use Rattle.mb_step.specs.Modes.{KeepsMode};
 ghost use Rattle.mb_step.specs.Fetching.{sought_of, sought_by, word_of, behind, found_executed};
 
 use crate::decoder::Longer;
@@ -367,17 +368,19 @@ pub(crate) fn execute_by_row<P: Port>(
     execute_first(first, first_words, shorts, longer, processor, port)
 }
 
-/// Carries out the instruction of a first word's short form that stands at PC, where that is done at once and no trace
-/// is due whether or not it changes the flow of control. Else nothing has changed.
+/// Carries out the instruction of a first word's short form that stands at PC, where that is done at once; no trace is
+/// due whether or not it changes the flow of control. Else nothing has changed.
 #[inline(always)]
 fn execute_untraced<P: Port, const COPY: usize>(
     first: u16,
     short: &Short,
+    space: Space,
     processor: &mut Processor,
     port: &mut P,
 ) -> bool
     requires even { processor.old.regs.pc % 2 ≡ 0 }
     requires short { IsShort first short.now }
+    requires space { space ≡ space_of processor.old }
     requires untraced { (flow : _) → is_due processor.old.regs.sr flow ≡ false }
     ensures done { result ≡ true
         → run P.bus (found_executed processor.old (by_decoded (alone first) (behind processor.old first)))
@@ -387,9 +390,11 @@ fn execute_untraced<P: Port, const COPY: usize>(
         → Differ (changed_of short.now) (plain_of processor.old.regs) (plain_of processor.new.regs) }
     ensures undone { result ≡ false → processor.new ≡ processor.old }
     ensures same { result ≡ false → P.world port.new ≡ P.world port.old }
+    ensures mode { KeepsMode processor.old processor.new }
+    ensures still { P.still (P.world port.new) ≡ P.still (P.world port.old) }
     ensures rest { P.rest port.new ≡ P.rest port.old }
 {
-    match perform_short::<_, COPY>(short, processor.cpu.space(), &mut processor.plain, port) {
+    match perform_short::<_, COPY>(short, space, &mut processor.plain, port) {
         Some(_) => {
             processor.plain.ccr %= 32;
             true
@@ -398,14 +403,16 @@ fn execute_untraced<P: Port, const COPY: usize>(
     }
 }
 
-/// Fetches the instruction that stands at PC and carries it out by its short form, where all that is done at once and
-/// no trace is due: then the answer is what it may have changed. Else nothing has changed.
+/// Fetches the instruction that stands at PC and carries it out by its short form, where all that is done at once; no
+/// trace is due. Then the answer is what it may have changed. Else nothing has changed.
 #[inline(always)]
 pub(crate) fn execute_at_once<P: Port, const COPY: usize>(
     shorts: &Shorts,
+    space: Space,
     processor: &mut Processor,
     port: &mut P,
 ) -> Option<Changed>
+    requires space { space ≡ space_of processor.old }
     requires untraced { (flow : _) → is_due processor.old.regs.sr flow ≡ false }
     ensures done { IfSome result (λ changed. run P.bus (execute_next_of processor.old) (P.world port.old)
         ≡ ((Finish.Went, processor.new), P.world port.new)) }
@@ -413,15 +420,17 @@ pub(crate) fn execute_at_once<P: Port, const COPY: usize>(
         Differ changed (plain_of processor.old.regs) (plain_of processor.new.regs)) }
     ensures undone { IfNone result (processor.new ≡ processor.old) }
     ensures same { IfNone result (P.world port.new ≡ P.world port.old) }
+    ensures mode { KeepsMode processor.old processor.new }
+    ensures still { P.still (P.world port.new) ≡ P.still (P.world port.old) }
     ensures rest { P.rest port.new ≡ P.rest port.old }
 {
-    let (at, space) = (processor.pc(), processor.space());
+    let at = processor.pc();
     if at % 2 == 1 {
         return None;
     }
     let first = port.quick_fetch(space, at)?;
     let short = shorts.of(first);
-    if execute_untraced::<_, COPY>(first, short, processor, port) {
+    if execute_untraced::<_, COPY>(first, short, space, processor, port) {
         Some(changed_by(short))
     } else {
         None

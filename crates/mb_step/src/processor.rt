@@ -97,7 +97,7 @@ impl Processor {
 
     /// Whether a trace bit is set, T1 or T0.
     #[inline(always)]
-    pub(crate) fn is_traced(&self) -> bool
+    pub fn is_traced(&self) -> bool
         ensures { result ≡ false → (flow : _) → is_due self.now.regs.sr flow ≡ false }
     {
         self.cpu.regs.sr >= 0x4000
@@ -121,7 +121,7 @@ impl Processor {
 
     /// The space of its accesses, by S.
     #[inline(always)]
-    pub(crate) fn space(&self) -> Space
+    pub fn space(&self) -> Space
         ensures { result ≡ space_of self.now }
     {
         self.cpu.space()

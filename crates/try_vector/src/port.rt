@@ -85,6 +85,10 @@ impl Port for VectorPort {
 
     ghost bus = { vector_bus };
 
+    ghost Still = { ℕ };
+
+    ghost still = { λ m. m.hole };
+
     ghost exists = { HasPlace };
 
     fn fetch(&mut self, space: Space, at: u32) -> Result<u16, Fault> {

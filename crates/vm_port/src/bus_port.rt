@@ -23,6 +23,10 @@ impl<R: Ram> Port for GuestPort<'_, R> {
 
     ghost bus = { guest_bus };
 
+    ghost Still = { Guest };
+
+    ghost still = { λ g. g };
+
     ghost exists = { λ rest place. HasPiece place };
 
     fn fetch(&mut self, space: Space, at: u32) -> Result<u16, Fault> {

@@ -1,6 +1,8 @@
-use Rattle.std.proofs.Common.{refl}
+use Rattle.std.proofs.Common.{◌≡◌, ◌∙◌, ap, refl, sym}
+use Rattle.mb_model.specs.Status.{space_of}
 use Rattle.mb_short.specs.Changed.{changed_of}
 use Rattle.mb_step.proofs.InShort.{differ_apart, even_apart, untraced_went, valid, valid_with}
+use Rattle.mb_step.proofs.Registers.{same_mode, same_space}
 use Rattle.mb_step.proofs.fetching.execute_untraced.Goals as goal
 
 pub perform_short-requires-clause-even : goal.perform_short-requires-clause-even
@@ -15,11 +17,19 @@ perform_short-requires-clause-valid_with g c = valid_with c.args.first c.args.sh
 
 pub returns-in-Some-clause-done : goal.returns-in-Some-clause-done
 returns-in-Some-clause-done g c = λ is.
+    let space : c.args.space ≡ space_of c.processor.inside.cpu =
+    c.requires.space ∙ sym (ap space_of c.processor.view_is) ∙ sym (same_space c.processor.inside.plain c.processor.inside.cpu) in
     untraced_went g.P.Port.bus c.processor.inside.cpu c.args.processor.now c.processor.inside.plain _ c.args.first c.args.short.now _ _ _
     c.processor.view_is (assumption c.processor.ranges) c.processor.invariant c.requires.short
-    (rw c.space.ensures at c.in-Some.ensures.done) (c.requires.untraced _)
+    (rw space at c.in-Some.ensures.done) (c.requires.untraced _)
 
 pub returns-in-Some-clause-differ : goal.returns-in-Some-clause-differ
 returns-in-Some-clause-differ g c = λ is.
     differ_apart (changed_of c.args.short.now) c.processor.inside.cpu c.args.processor.now _ c.processor.inside.plain _ c.processor.view_is refl
     (assumption c.processor.ranges) c.processor.invariant c.in-Some.ensures.differ
+
+pub returns-in-Some-clause-mode : goal.returns-in-Some-clause-mode
+returns-in-Some-clause-mode g c = same_mode c.processor.inside.plain _ c.processor.inside.cpu c.args.processor.now _ c.processor.view_is refl
+
+pub returns-in-None-clause-mode : goal.returns-in-None-clause-mode
+returns-in-None-clause-mode g c = same_mode c.processor.inside.plain _ c.processor.inside.cpu c.args.processor.now _ c.processor.view_is refl

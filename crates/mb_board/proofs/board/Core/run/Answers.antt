@@ -1,22 +1,22 @@
-use Rattle.std.proofs.Common.{◌≡◌, ◌∙◌, ◌+◌, ◌-◌, ℕ, suc, ap, sym, subst, refl, arith}
+use Rattle.std.proofs.Common.{◌≡◌, ◌∙◌, ◌-◌, suc, ap, sym, refl, arith}
 use Rattle.mb_instr.specs.Registers.{plain_of}
 use Rattle.def_machine.specs.Machine.{Machine}
-use Rattle.def_runs.specs.Native.{about_to_run, user_run}
-use Rattle.mb_board.specs.Fits.{FitsAlong}
-use Rattle.mb_board.proofs.UserRuns.{ran_of, any_before, fits_any, fits_once, fits-off, fits-on, no-step, one_step, step-off, steps-on}
+use Rattle.def_runs.specs.Native.{about_to_run}
+use Rattle.def_runs.specs.declared.RunEnd.{RunEnd}
+use Rattle.mb_board.proofs.UserRuns.{any_before, continues_behind, continues_here, continues_on, ends_behind, ends_last, fit_behind, fit_last}
+use Rattle.mb_board.proofs.UserRuns.{fits_any, goes_counted, no-step, ran_of}
 use Rattle.mb_board.proofs.board.Core.run.Goals as goal
 
 pub returns-then-limit-eq0-clause-means : goal.returns-then-limit-eq0-clause-means
 returns-then-limit-eq0-clause-means c =
     no-step c.args.limit (about_to_run c.args.self.now c.args.native.now c.args.before.now) c.if-limit-eq0.true
 
-pub loop-init : goal.loop-init
-loop-init c =
+pub loop-left-init : goal.loop-left-init
+loop-left-init c =
     let count : suc (c.args.limit - 1) ≡ c.args.limit = omega arith in
     let r = about_to_run c.args.self.now c.args.native.now c.plain.result.now in
     record {
-      run = ap (λ (k : ℕ). user_run k r) count;
-      fit = λ later. subst (λ (k : ℕ). FitsAlong k r) count later;
+      continues = continues_here c.args.limit (suc (c.args.limit - 1)) r count;
       before = c.plain.ensures ∙ ap (λ (m : Machine). plain_of m.cpu.regs) c.self.view_is;
       spelled = c.spelling-spelled.ensures;
       retired = (omega arith);
@@ -24,55 +24,55 @@ loop-init c =
       ram = refl;
     }
 
-pub loop-preserved : goal.loop-preserved
-loop-preserved c =
-    let r = about_to_run c.loop.self c.loop.native c.loop.before in
-    let k = c.args.limit - c.loop.counter in
-    let n = c.args.limit - (c.loop.counter + 1) in
-    let more : k ≡ suc n = omega arith in
-    let on = steps-on (suc k) k r c.run_on.result c.run_on.new.self c.run_on.new.native c.loop.before refl c.run_on.ensures.means c.in-Counted.is in
+pub loop-left-preserved : goal.loop-left-preserved
+loop-left-preserved c =
+    let left = c.loop-left.left in
+    let calm = c.run_calmly-left in
+    let k = suc left - calm.result in
+    let n = suc (left - calm.result - 1) in
+    let r = about_to_run calm.new.self calm.new.native calm.new.before in
     let m = c.run_on.new.self in
     let native = c.run_on.new.native in
+    let went = ap (λ (e : RunEnd). ran_of e m native calm.new.before) (sym c.in-Counted.is) ∙ c.run_on.ensures.means in
+    let counts = goes_counted r m native calm.new.before went in
     record {
-      run =
-          any_before (suc n) m native c.run_on.new.before c.loop.before (omega arith)
-          ∙ ap (λ (j : ℕ). user_run j (about_to_run m native c.loop.before)) (sym more) ∙ on.run ∙ c.loop.invariant.run;
-      fit = λ later. c.loop.invariant.fit (fits-on (suc k) k r c.run_on.result m native c.loop.before refl c.run_on.ensures.means c.in-Counted.is
-          (rw c.loop.invariant.before at c.loop.invariant.spelled.fit)
-          (subst (λ (j : ℕ). FitsAlong j (about_to_run m native c.loop.before)) (sym more)
-          (fits_any (suc n) m native c.run_on.new.before c.loop.before later)));
+      continues = continues_on c.args.limit (suc left) n _ _ _ c.loop-left.invariant.continues
+          (continues_on (suc left) k n _ r _ (calm.ensures.means (suc left) (omega arith))
+          (continues_behind k n r m native calm.new.before c.run_on.new.before (omega arith) (omega arith) went
+          (rw calm.ensures.before at calm.ensures.spelled.fit)));
       before = c.run_on.ensures.on c.in-Counted.is;
       spelled = rw (c.run_on.ensures.on c.in-Counted.is) c.run_on.ensures.spelled;
-      retired = (let a = on.retired in let b = c.loop.invariant.retired in omega arith);
-      exceptions = (let a = on.exceptions in let b = c.loop.invariant.exceptions in omega arith);
-      ram = c.run_on.ensures.ram ∙ c.loop.invariant.ram;
+      retired = (let a = counts.retired in let b = calm.ensures.retired in let d = c.loop-left.invariant.retired in let e = calm.ensures.within in
+          omega arith);
+      exceptions = (let a = counts.exceptions in let b = calm.ensures.exceptions in let d = c.loop-left.invariant.exceptions in omega arith);
+      ram = c.run_on.ensures.ram ∙ calm.ensures.ram ∙ c.loop-left.invariant.ram;
     }
 
 pub returns-clause-means : goal.returns-clause-means
 returns-clause-means c =
-    let r = about_to_run c.loop.self c.loop.native c.loop.before in
-    let last : suc (c.args.limit - c.loop.counter) ≡ 1 = omega arith in
-    c.run_last.ensures.means ∙ sym (one_step r) ∙ ap (λ (k : ℕ). user_run k r) (sym last) ∙ c.loop.invariant.run
+    ends_last c.args.limit (suc c.loop-left.left) _ _ _ c.loop-left.invariant.continues (omega arith) c.run_last.ensures.means
     ∙ any_before c.args.limit c.args.self.now c.args.native.now c.plain.result.now c.args.before.now (omega arith)
 
 pub returns-clause-fit : goal.returns-clause-fit
 returns-clause-fit c =
-    let r = about_to_run c.loop.self c.loop.native c.loop.before in
-    let last : suc (c.args.limit - c.loop.counter) ≡ 1 = omega arith in
     fits_any c.args.limit c.args.self.now c.args.native.now c.plain.result.now c.args.before.now
-    (c.loop.invariant.fit (subst (λ (k : ℕ). FitsAlong k r) (sym last) (fits_once r (rw c.loop.invariant.before at c.loop.invariant.spelled.fit))))
+    (fit_last c.args.limit (suc c.loop-left.left) _ _ c.loop-left.invariant.continues (omega arith)
+    (rw c.loop-left.invariant.before at c.loop-left.invariant.spelled.fit))
 
 pub returns-in_default : goal.returns-in_default
 returns-in_default c =
-    let r = about_to_run c.loop.self c.loop.native c.loop.before in
-    let k = c.args.limit - c.loop.counter in
-    let off = c.run_on.ensures.off c.in_default.not-Counted in
-    let last = ran_of c.run_on.result c.run_on.new.self c.run_on.new.native c.loop.before in
+    let left = c.loop-left.left in
+    let calm = c.run_calmly-left in
+    let k = suc left - calm.result in
+    let r = about_to_run calm.new.self calm.new.native calm.new.before in
+    let continues = continues_on c.args.limit (suc left) k _ _ r c.loop-left.invariant.continues (calm.ensures.means (suc left) (omega arith)) in
+    let last = ran_of c.run_on.result c.run_on.new.self c.run_on.new.native calm.new.before in
     record {
-      means = rw off (step-off (suc k) k r last refl c.run_on.ensures.means c.in_default.not-Counted ∙ c.loop.invariant.run
+      means = rw (c.run_on.ensures.off c.in_default.not-Counted)
+          (ends_behind c.args.limit k _ r last continues (omega arith) c.run_on.ensures.means c.in_default.not-Counted
           ∙ any_before c.args.limit c.args.self.now c.args.native.now c.plain.result.now c.args.before.now (omega arith));
       fit = fits_any c.args.limit c.args.self.now c.args.native.now c.plain.result.now c.args.before.now
-          (c.loop.invariant.fit (fits-off (suc k) k r last refl c.run_on.ensures.means c.in_default.not-Counted
-          (rw c.loop.invariant.before at c.loop.invariant.spelled.fit)));
-      ram = c.run_on.ensures.ram ∙ c.loop.invariant.ram;
+          (fit_behind c.args.limit k _ r last continues (omega arith) c.run_on.ensures.means c.in_default.not-Counted
+          (rw calm.ensures.before at calm.ensures.spelled.fit));
+      ram = c.run_on.ensures.ram ∙ calm.ensures.ram ∙ c.loop-left.invariant.ram;
     }
