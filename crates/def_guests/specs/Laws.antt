@@ -129,8 +129,8 @@ NothingIsTaken = (s : Scene) → IsSeated s.guest s.ram → Takes 0 s s
 abbrev pub TakesAdd : Type 0
 TakesAdd = (n m : ℕ) (s t u : Scene) → Takes n s t → Takes m t u → Takes (n + m) s u
 
--- Where a guest changes, and of the board's memory its own part and the monitor's alone, all stay seated, and every other
--- has the machine and the shadow that it had.
+-- Where a guest changes, and of the board's memory its own part and the monitor's alone, all stay seated, and every
+-- other has the machine and the shadow that it had.
 abbrev pub OthersStay : Type 0
 OthersStay = (guests : List Seat) (place : ℕ) (g h : Seat) (before after : List ℕ) → AllSeated guests before
     → slice_get guests place ≡ Some g → IsSame g h → IsSeated h after → OnlyWithin g before after

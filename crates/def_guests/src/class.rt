@@ -1,7 +1,7 @@
 //! Why a step is carried out as it is.
 
 /// The class of a step of a guest: it is retired, or the monitor assists it for exactly one of the other causes.
-#[derive(Clone, Copy, Debug, PartialEq, Eq)]
+#[derive(Clone, Copy, PartialEq, Eq)]
 pub enum Class {
     /// The entry of an interrupt.
     Entered,

@@ -6,7 +6,7 @@ ghost use Rattle.def_machine.specs.Bus.{fault_of, fetching_of as fetches, readin
 use mb_port::{Fault, Space};
 
 /// A reference to memory: what an access is to its translation.
-#[derive(Clone, Copy, Debug, PartialEq, Eq)]
+#[derive(Clone, Copy, PartialEq, Eq)]
 pub struct Reference {
     /// It fetches an instruction word: the side of code, else the side of data.
     pub code: bool,
@@ -18,7 +18,7 @@ pub struct Reference {
 }
 
 /// What is known of where a reference leads, before any table is searched.
-#[derive(Clone, Copy, Debug, PartialEq, Eq)]
+#[derive(Clone, Copy, PartialEq, Eq)]
 pub enum Settled {
     /// It leads to this physical address.
     To(u32),

@@ -4,7 +4,7 @@ use mb_frames::Access;
 use mb_port::Fault;
 
 /// Why an exception is entered.
-#[derive(Clone, Copy, Debug, PartialEq, Eq)]
+#[derive(Clone, Copy, PartialEq, Eq)]
 pub struct Cause {
     pub vector: u8,
     /// The PC that is stacked.
@@ -18,7 +18,7 @@ pub struct Cause {
 }
 
 /// What an entry comes to.
-#[derive(Clone, Copy, Debug, PartialEq, Eq)]
+#[derive(Clone, Copy, PartialEq, Eq)]
 pub enum Entered {
     Done,
     /// A piece of the frame can't be written, and nothing was. All registers are as before.

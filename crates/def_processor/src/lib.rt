@@ -25,7 +25,7 @@ pub enum StepEnd {
 }
 
 /// How a step ended, with the last exception that it entered.
-#[derive(Clone, Copy, Debug, PartialEq, Eq)]
+#[derive(Clone, Copy, PartialEq, Eq)]
 pub enum Finish {
     /// An instruction, which entered no exception.
     Went,

@@ -4,7 +4,7 @@ use arrayvec::ArrayVec;
 use mb_frames::Pend;
 
 /// What was left to do of a step that an access error ended.
-#[derive(Debug, PartialEq, Eq, Drop)]
+#[derive(PartialEq, Eq, Drop)]
 pub enum LeftOver {
     /// The step begins again: a fetch, a read, a locked check, or the first byte of a long that MOVEP stores was
     /// refused. All registers are as before it.

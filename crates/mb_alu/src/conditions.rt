@@ -4,7 +4,7 @@ ghost use Rattle.std.specs.Prelude.{◌≡◌};
 ghost use Rattle.mb_alu.specs.Conditions.{conditions_of, ccr_of};
 
 /// The condition codes one by one.
-#[derive(Clone, Copy, Debug, PartialEq, Eq)]
+#[derive(Clone, Copy, PartialEq, Eq)]
 pub struct Conditions {
     /// Extend: the carry of arithmetic over several operands.
     pub x: bool,
@@ -19,7 +19,7 @@ pub struct Conditions {
 }
 
 /// A result with the condition codes after it.
-#[derive(Clone, Copy, Debug, PartialEq, Eq)]
+#[derive(Clone, Copy, PartialEq, Eq)]
 pub struct Flagged {
     /// Of an operand shorter than a long, the bytes above it are 0.
     pub value: u32,

@@ -9,7 +9,7 @@ use crate::whole::Whole;
 use crate::width::Width;
 
 /// A product with the condition codes after it.
-#[derive(Clone, Copy, Debug, PartialEq, Eq)]
+#[derive(Clone, Copy, PartialEq, Eq)]
 pub struct Product {
     /// 32 bits, or 64 of [`Width::Wide`]; the bits above are 0.
     pub value: u64,

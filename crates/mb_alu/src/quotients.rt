@@ -9,7 +9,7 @@ use crate::whole::Whole;
 use crate::width::Width;
 
 /// What a division gives.
-#[derive(Clone, Copy, Debug, PartialEq, Eq)]
+#[derive(Clone, Copy, PartialEq, Eq)]
 pub enum Divided {
     /// Quotient and remainder have 16 bits at [`Width::Word`] and else 32; the bits above are 0.
     Done {

@@ -5,7 +5,7 @@ ghost use Rattle.std.specs.Prelude.{◌≡◌};
 use std::marker::Model;
 
 /// What a token is.
-#[derive(Clone, Copy, Debug, PartialEq, Eq)]
+#[derive(Clone, Copy, PartialEq, Eq)]
 pub enum TokenKind {
     /// Letters, digits and `_`, not beginning with a digit.
     Name,
@@ -22,7 +22,7 @@ pub enum TokenKind {
 }
 
 /// A part of a line. Its places count from 0, and `end` is the place behind its last byte.
-#[derive(Clone, Copy, Debug, PartialEq, Eq)]
+#[derive(Clone, Copy, PartialEq, Eq)]
 pub struct Token {
     pub kind: TokenKind,
     pub start: u32,
@@ -30,7 +30,7 @@ pub struct Token {
 }
 
 /// A list of tokens.
-#[derive(Debug, Drop)]
+#[derive(Drop)]
 pub struct Tokens {
     tokens: Vec<Token>,
 }

@@ -38,7 +38,15 @@ fn state_by(end: StepEnd, stopped: bool, devices: &Devices) -> RunState
     }
 }
 
-/// The same, by its finish. Nearly every step leaves the machine running, so that is asked first.
+/// The same, by its finish.
+#[inline(never)]
+fn state_by_finish(finish: Finish, stopped: bool, devices: &Devices) -> RunState
+    ensures { (cpu : Cpu) → cpu.stopped ≡ stopped → result ≡ state_after (step_end finish) cpu devices.now }
+{
+    state_by(finish.step_end(), stopped, devices)
+}
+
+/// The same. Nearly every step leaves the machine running, so that is asked first.
 #[inline(always)]
 pub(crate) fn state_of(finish: Finish, stopped: bool, devices: &Devices) -> RunState
     ensures { (cpu : Cpu) → cpu.stopped ≡ stopped → result ≡ state_after (step_end finish) cpu devices.now }
@@ -46,7 +54,7 @@ pub(crate) fn state_of(finish: Finish, stopped: bool, devices: &Devices) -> RunS
     match finish {
         Finish::Went if !stopped && !devices.is_off() => RunState::Running,
         Finish::Went | Finish::Entered(_) | Finish::Idle | Finish::Halted => {
-            state_by(finish.step_end(), stopped, devices)
+            state_by_finish(finish, stopped, devices)
         }
     }
 }

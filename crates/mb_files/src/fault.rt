@@ -5,7 +5,7 @@ use mb_script::LineWhy;
 use mb_srec::RecordWhy;
 
 /// Why a line of a file does not stand.
-#[derive(Clone, Copy, Debug, PartialEq, Eq)]
+#[derive(Clone, Copy, PartialEq, Eq)]
 pub enum Reason {
     /// It is no record of an image, or stands where it may not.
     Record(RecordWhy),
@@ -18,7 +18,7 @@ pub enum Reason {
 }
 
 /// Why a file is refused, whatever it is read as.
-#[derive(Clone, Copy, Debug, PartialEq, Eq)]
+#[derive(Clone, Copy, PartialEq, Eq)]
 pub enum FileWhy {
     /// It has more bytes than a file of its kind may have.
     TooLong,

@@ -1,7 +1,7 @@
 //! Exception frames.
 
 /// A frame on a supervisor stack. `offset` is the vector offset, the low 12 bits of the format word.
-#[derive(Clone, Copy, Debug, PartialEq, Eq)]
+#[derive(Clone, Copy, PartialEq, Eq)]
 pub enum Frame {
     /// Format $0, 8 bytes: the status register, the program counter and the vector offset.
     Short {
@@ -32,7 +32,7 @@ pub enum Frame {
 }
 
 /// What the frame of an access error holds after the format word, in the order of its bytes.
-#[derive(Clone, Copy, Debug, Default, PartialEq, Eq)]
+#[derive(Clone, Copy, Default, PartialEq, Eq)]
 pub struct Access {
     /// The effective address: the first byte of the operand that was being accessed.
     pub ea: u32,

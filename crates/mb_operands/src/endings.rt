@@ -13,7 +13,7 @@ use mb_instr::Plain;
 use mb_writes::{Ended, WriteFault};
 
 /// Not done, or with an exception: how it ended stands beside.
-#[derive(Clone, Copy, Debug, PartialEq, Eq)]
+#[derive(Clone, Copy, PartialEq, Eq)]
 pub struct Undone;
 
 /// A read was refused.

@@ -11,7 +11,7 @@ pub enum Space {
 }
 
 /// A naturally aligned part of an operand: 1, 2 or 4 bytes at a multiple of their number.
-#[derive(Clone, Copy, Debug, Default, PartialEq, Eq)]
+#[derive(Clone, Copy, Default, PartialEq, Eq)]
 pub struct Piece {
     /// The logical address of the first byte.
     pub at: u32,

@@ -31,7 +31,7 @@ use vm_guest::{Guest, Session, SessionDisk, SessionGuest};
 use vm_slices::judge_fit;
 
 /// A session, and the commands for a guest of it.
-#[derive(Debug, Drop)]
+#[derive(Drop)]
 pub(crate) struct DebuggedSession {
     pub(crate) session: Session,
     pub(crate) commands: Commands,

@@ -7,7 +7,7 @@ use mb_srec::Image;
 use vm_guest::SessionDisk;
 
 /// A disk: how many blocks it has, and the name of the file with its contents, where it has any.
-#[derive(Clone, Copy, Debug, Drop)]
+#[derive(Clone, Copy, Drop)]
 pub(crate) struct NamedDisk<'a> {
     pub(crate) blocks: u32,
     pub(crate) contents: Option<&'a str>,
@@ -15,7 +15,7 @@ pub(crate) struct NamedDisk<'a> {
 }
 
 /// The names of a machine's files, with its RAM in KiB.
-#[derive(Clone, Copy, Debug, Drop)]
+#[derive(Clone, Copy, Drop)]
 pub(crate) struct NamedFiles<'a> {
     pub(crate) image: &'a str,
     pub(crate) ram: u32,

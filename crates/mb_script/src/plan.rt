@@ -3,14 +3,14 @@
 use crate::turn::Turn;
 
 /// A disk: how many blocks it has, and the name of the file with its contents.
-#[derive(Debug, Drop)]
+#[derive(Drop)]
 pub struct DiskPlan {
     blocks: u32,
     contents: Option<String>,
 }
 
 /// A guest: the size of its RAM, a bound on its steps, the names of its files, and its disk, where it has one.
-#[derive(Debug, Drop)]
+#[derive(Drop)]
 pub struct GuestPlan {
     ram: u32,
     steps: u32,
@@ -20,7 +20,7 @@ pub struct GuestPlan {
 }
 
 /// A board, the guests that share it, and the turns that come before all rounds.
-#[derive(Debug, Drop)]
+#[derive(Drop)]
 pub struct SessionPlan {
     board: u32,
     slice: u32,

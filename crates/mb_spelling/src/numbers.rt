@@ -16,7 +16,7 @@ pub trait Admits {
 }
 
 /// Sets of numbers that registers can hold.
-#[derive(Clone, Copy, Debug, PartialEq, Eq)]
+#[derive(Clone, Copy, PartialEq, Eq)]
 pub enum Numbers {
     Any,
     /// Those above 0.

@@ -26,7 +26,7 @@ pub struct Operation {
 }
 
 /// What a line says. A line of blanks or a comment has neither part.
-#[derive(Debug, Drop)]
+#[derive(Drop)]
 pub struct Statement {
     /// No register's name, and at most 63 bytes long.
     pub label: Option<Name>,

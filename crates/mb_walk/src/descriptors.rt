@@ -6,7 +6,7 @@ ghost use Rattle.mb_walk.specs.Descriptors.{table_descriptor, page_descriptor, w
 use mb_model::page_of;
 
 /// An entry of a root or pointer table.
-#[derive(Clone, Copy, Debug, PartialEq, Eq)]
+#[derive(Clone, Copy, PartialEq, Eq)]
 pub struct TableDescriptor {
     /// UDT, bits 1 and 0, is 2 or 3: the table below is resident.
     pub resident: bool,
@@ -17,7 +17,7 @@ pub struct TableDescriptor {
 }
 
 /// An entry of a page table.
-#[derive(Clone, Copy, Debug, PartialEq, Eq)]
+#[derive(Clone, Copy, PartialEq, Eq)]
 pub struct PageDescriptor {
     /// PDT, bits 1 and 0, is 1 or 3.
     pub resident: bool,

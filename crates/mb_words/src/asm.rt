@@ -1,7 +1,7 @@
 //! The command `asm`.
 
 /// `asm`: a source that is assembled to an image.
-#[derive(Clone, Copy, Debug, Drop)]
+#[derive(Clone, Copy, Drop)]
 pub struct Asm<'a> {
     /// The name of the source's file. It is not empty.
     pub source: &'a str,

@@ -3,7 +3,7 @@
 ghost use Rattle.mb_script.specs.Plan.{IsBlocks, IsRam};
 
 /// A disk of a machine: how many blocks it has, and its contents.
-#[derive(Clone, Copy, Debug, Drop)]
+#[derive(Clone, Copy, Drop)]
 pub struct BareDisk<'a> {
     /// 1 to 32,768.
     pub blocks: u32,
@@ -13,7 +13,7 @@ pub struct BareDisk<'a> {
 }
 
 /// `bare`: a machine by its image, its RAM, its steps and its terminal's input.
-#[derive(Clone, Copy, Debug, Drop)]
+#[derive(Clone, Copy, Drop)]
 pub struct Bare<'a> {
     /// The name of the image's file. It is not empty.
     pub image: &'a str,

@@ -9,7 +9,7 @@ use crate::session::SessionFile;
 use crate::snapshot::{ResumeSnapshot, SaveSession};
 
 /// A command with its values.
-#[derive(Clone, Copy, Debug, Drop)]
+#[derive(Clone, Copy, Drop)]
 pub enum Command<'a> {
     Bare(Bare<'a>),
     Asm(Asm<'a>),

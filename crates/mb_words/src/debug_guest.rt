@@ -3,7 +3,7 @@
 ghost use Rattle.mb_words.specs.Values.{IsGuestCount};
 
 /// `debug`: a guest of a session under the debugger.
-#[derive(Clone, Copy, Debug, Drop)]
+#[derive(Clone, Copy, Drop)]
 pub struct DebugGuest<'a> {
     /// The name of the session's file. It is not empty.
     pub session: &'a str,

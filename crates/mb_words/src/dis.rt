@@ -4,7 +4,7 @@ ghost use Rattle.std.specs.Prelude.{◌≡◌, ◌%◌};
 ghost use Rattle.mb_script.specs.Plan.{IsRam};
 
 /// `dis`: an excerpt of a machine's opening memory, by its image and its RAM.
-#[derive(Clone, Copy, Debug, Drop)]
+#[derive(Clone, Copy, Drop)]
 pub struct Dis<'a> {
     /// The name of the image's file. It is not empty.
     pub image: &'a str,

@@ -1,7 +1,7 @@
 //! The commands `save` and `resume`.
 
 /// `save`: the guests of a session after some steps.
-#[derive(Clone, Copy, Debug, Drop)]
+#[derive(Clone, Copy, Drop)]
 pub struct SaveSession<'a> {
     /// The name of the session's file. It is not empty.
     pub session: &'a str,
@@ -10,7 +10,7 @@ pub struct SaveSession<'a> {
 }
 
 /// `resume`: the guests of a snapshot go on.
-#[derive(Clone, Copy, Debug, Drop)]
+#[derive(Clone, Copy, Drop)]
 pub struct ResumeSnapshot<'a> {
     /// The name of the snapshot's file. It is not empty.
     pub snapshot: &'a str,

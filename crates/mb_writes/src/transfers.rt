@@ -32,7 +32,7 @@ pub struct Movem {
 }
 
 /// One register, 0 to 7 for D0 to D7 and 8 to 15 for A0 to A7, and the logical address of its bytes.
-#[derive(Clone, Copy, Debug, Default, PartialEq, Eq)]
+#[derive(Clone, Copy, Default, PartialEq, Eq)]
 pub struct Transfer {
     pub register: u8,
     pub at: u32,

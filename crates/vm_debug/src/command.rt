@@ -24,7 +24,7 @@ pub enum Command {
 }
 
 /// Commands in the order in which they are carried out.
-#[derive(Debug, Drop)]
+#[derive(Drop)]
 pub struct Commands {
     pub(crate) commands: Vec<Command>,
 }

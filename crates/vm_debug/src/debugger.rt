@@ -21,7 +21,7 @@ use vm_guest::Guest;
 pub const MOST_BREAKS: usize = 64;
 
 /// A debugger's break points, a set of at most 64 addresses. It takes no memory.
-#[derive(Debug, Drop)]
+#[derive(Drop)]
 pub struct Debugger {
     pub(crate) breaks: ArrayVec<u32, MOST_BREAKS>,
 }

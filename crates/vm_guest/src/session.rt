@@ -16,7 +16,7 @@ pub struct SessionDisk {
 
 /// What a guest begins with: its image, what is to arrive at its terminal, its RAM, a bound on its steps, and its disk,
 /// where it has one.
-#[derive(Debug, Drop)]
+#[derive(Drop)]
 pub struct SessionGuest {
     image: Image,
     script: Script,
@@ -26,7 +26,7 @@ pub struct SessionGuest {
 }
 
 /// A board, the steps of a turn, and the guests that share the board.
-#[derive(Debug, Drop)]
+#[derive(Drop)]
 pub struct Session {
     board: u32,
     slice: u32,

@@ -2,8 +2,8 @@
 //!
 //! [`specs/Saved`] has what a snapshot tells of a machine and the machine that it is; [`specs/Begins`] the runs, counts
 //! and marks of a guest that begins with any machine; [`specs/Bits`] what bits registers have; [`specs/Saving`] which
-//! machines can be saved; [`specs/Lawful`] that what is saved of them is lawful; [`specs/Cuts`] scripts without what has
-//! arrived already; [`specs/Resumes`] a run that is saved in its middle.
+//! machines can be saved; [`specs/Lawful`] that what is saved of them is lawful; [`specs/Cuts`] scripts without what
+//! has arrived already; [`specs/Resumes`] a run that is saved in its middle.
 #![tactic(auto)]
 
 ghost use Rattle.vm_saved.specs.Saved.{SavedIsGivenBack, GoingIsGivenBack};

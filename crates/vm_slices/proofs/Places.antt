@@ -1,6 +1,6 @@
 -- Guests that are seated: one that changes, its turn, and a further one behind them.
 use Rattle.std.proofs.Common.{◌≡◌, ◌≢◌, ◌∙◌, ℕ, zero, suc, ◌+◌, ◌≤◌, ◌<◌, List, [], ◌∷◌, ◌++◌, length, get_or, set, drop, map}
-use Rattle.std.proofs.Common.{true, refl, ap, sym, subst, inl, inr, arith, Some}
+use Rattle.std.proofs.Common.{true, refl, ap, sym, subst, inl, arith, Some}
 use Rattle.std.specs.Prelude.{slice_get, ◌&&◌, All}
 use Rattle.std.proofs.Common.{append_assoc}
 use Rattle.std.proofs.lemmas.List.{append-nil, map-append, map-set}

@@ -7,7 +7,7 @@ use mb_spelling::Stop;
 use std::alloc::{AllocError, AllocFailed};
 
 /// Want of memory, or why the text stops.
-#[derive(Clone, Copy, Debug, PartialEq, Eq)]
+#[derive(Clone, Copy, PartialEq, Eq)]
 pub enum Refusal {
     Memory,
     Stopped(Stop),

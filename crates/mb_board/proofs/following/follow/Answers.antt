@@ -1,4 +1,4 @@
-use Rattle.std.proofs.Common.{◌∙◌, refl, sym}
+use Rattle.std.proofs.Common.{◌∙◌, sym}
 use Rattle.mb_board.proofs.Followed.{all_put, put_in}
 use Rattle.mb_board.proofs.following.follow.Goals as goal
 
