@@ -37,6 +37,12 @@ impl BoardBus {
             Found::Entry(k, _) => {
                 self.translator.fill(r.code, k);
                 self.translator.settle(r);
+                if !r.code {
+                    self.translator.settle(Reference {
+                        write: !r.write,
+                        ..r
+                    });
+                }
                 through(&k, r)
             }
             Found::Invalid | Found::BusError => None,
