@@ -6,9 +6,11 @@ use Rattle.std.proofs.lemmas.Grind.{same_number_lists, get_or-set_at}
 use Rattle.std.proofs.lemmas.List.{get_or-set_other, length-set}
 use Rattle.mb_instr.specs.declared.registers.Plain.{Plain}
 use Rattle.def_runs.specs.Marks.{numbers_of, spelled, HasNumbers}
-use Rattle.mb_short.specs.Changed.{AgreeBut}
+use Rattle.mb_short.specs.Changed.{AgreeBut, Differ}
+use Rattle.mb_short.specs.declared.changed.Changed.{Changed}
+use Rattle.mb_short.specs.declared.changed.Changed.TheVariants.{Nothing, Data, Address, Both, Any}
 use Rattle.mb_board.specs.Fits.{IsFit}
-use Rattle.mb_board.specs.Spelling.{flow_of, spelled_in_parts, Spell}
+use Rattle.mb_board.specs.Spelling.{flow_of, spelled_in_parts, without_flow, Spell}
 
 same_or_other : (i j : ℕ) → (i ≡ j) ⊎ (i ≢ j)
 same_or_other i j = grind arith
@@ -104,24 +106,25 @@ of_parts p sum numbers fit h = record {
   remainder = h ∙ ap (λ (n : ℕ). n % 2 ^ 64) (sym (by_parts p fit.eight));
 }
 
--- where these lists are those of the registers
-pub of_lists : (q : Plain) (result : ℕ) (d a : List ℕ) → HasNumbers q → IsFit q → d ≡ q.d → a ≡ q.a → result ≡ spelled_in_parts d a (flow_of q)
-    → Spell q result
-of_lists q result d a numbers fit e f h =
-    of_parts q result numbers fit
-    (h ∙ ap (λ (l : List ℕ). spelled_in_parts l a (flow_of q)) e ∙ ap (λ (l : List ℕ). spelled_in_parts q.d l (flow_of q)) f)
+-- PC and the condition codes behind the others
+flow_behind : (x sum flow result : ℕ) → sum ≡ (x + 0) % 2 ^ 64 → result ≡ (sum + flow) % 2 ^ 64 → result ≡ (x + flow) % 2 ^ 64
+flow_behind x sum flow result e f = omega (arith, e, f)
 
--- PC and the condition codes
-on_flow : (x sum counted result pc at ccr codes : ℕ) → (counted + 31 * pc) % 2 ^ 64 ≡ (sum + 31 * at) % 2 ^ 64
-    → (result + 1 * ccr) % 2 ^ 64 ≡ (counted + 1 * codes) % 2 ^ 64 → result < 2 ^ 64
-    → sum ≡ (x + (pc * 31 + ccr)) % 2 ^ 64 → result ≡ (x + (at * 31 + codes)) % 2 ^ 64
-on_flow x sum counted result pc at ccr codes e f less g = omega (arith, e, f, g, less)
+flow_taken : (x spelled flow result : ℕ) → flow < 2 ^ 64 → spelled ≡ (x + flow) % 2 ^ 64 → result ≡ (spelled + (2 ^ 64 - flow)) % 2 ^ 64
+    → result ≡ (x + 0) % 2 ^ 64
+flow_taken x spelled flow result less e f = omega (arith, less, e, f)
 
-pub flow_spelled : (p q : Plain) (sum counted result : ℕ) → (counted + 31 * p.pc) % 2 ^ 64 ≡ (sum + 31 * q.pc) % 2 ^ 64
-    → (result + 1 * p.ccr) % 2 ^ 64 ≡ (counted + 1 * q.ccr) % 2 ^ 64 → result < 2 ^ 64
-    → (d a : List ℕ) → sum ≡ spelled_in_parts d a (flow_of p) → result ≡ spelled_in_parts d a (flow_of q)
-flow_spelled p q sum counted result e f less d a g =
-    on_flow (spelled d * 31 ^ 10 + spelled a * 31 ^ 2) sum counted result p.pc q.pc p.ccr q.ccr e f less g
+pub flow_counted : (p : Plain) (sum flow result : ℕ) → HasNumbers p → IsFit p → sum ≡ without_flow p → flow ≡ flow_of p
+    → result ≡ (sum + flow) % 2 ^ 64 → Spell p result
+flow_counted p sum flow result numbers fit e f is =
+    let front = spelled p.d * 31 ^ 10 + spelled p.a * 31 ^ 2 in
+    of_parts p result numbers fit (flow_behind front sum flow result e is ∙ ap (λ (y : ℕ). (front + y) % 2 ^ 64) f)
+
+pub flow_uncounted : (p : Plain) (sum flow result : ℕ) → Spell p sum → flow < 2 ^ 64 → flow ≡ flow_of p
+    → result ≡ (sum + (2 ^ 64 - flow)) % 2 ^ 64 → result ≡ without_flow p
+flow_uncounted p sum flow result h less f is =
+    let front = spelled p.d * 31 ^ 10 + spelled p.a * 31 ^ 2 in
+    flow_taken front sum flow result less (in_parts p sum h ∙ ap (λ (y : ℕ). (front + y) % 2 ^ 64) (sym f)) is
 
 -- ---- one number of eight
 
@@ -206,8 +209,15 @@ put_in n xs ys one =
       | inr other ↦ get_or-set_other xs n k (get_or ys n 0) 0 other ∙ sym (one.others k other)
     ])
 
-abbrev with_all : Plain → List ℕ → List ℕ → Plain
-with_all q d a = record q { d = d; a = a }
+-- ---- registers whose PC and condition codes are not followed
 
-pub all_put : (p q : Plain) (d a : List ℕ) → d ≡ q.d → a ≡ q.a → record p { d = d; a = a; pc = q.pc; ccr = q.ccr } ≡ q
-all_put p q d a e f = ap (λ (l : List ℕ). with_all q l a) e ∙ ap (λ (l : List ℕ). with_all q q.d l) f
+pub differ_too : (c : Changed) (p r q : Plain) → r.d ≡ p.d → r.a ≡ p.a → Differ c p q → Differ c r q
+differ_too Nothing p r q e f h = (h.0 ∙ sym e, h.1 ∙ sym f)
+differ_too (Data n) p r q e f h = (subst (λ (l : List ℕ). AgreeBut n l q.d) (sym e) h.0, h.1 ∙ sym f)
+differ_too (Address m) p r q e f h = (h.0 ∙ sym e, subst (λ (l : List ℕ). AgreeBut m l q.a) (sym f) h.1)
+differ_too (Both n m) p r q e f h =
+    (subst (λ (l : List ℕ). AgreeBut n l q.d) (sym e) h.0, subst (λ (l : List ℕ). AgreeBut m l q.a) (sym f) h.1)
+differ_too Any p r q e f h = tt
+
+pub sum_too : (p r : Plain) (sum : ℕ) → r.d ≡ p.d → r.a ≡ p.a → sum ≡ without_flow p → sum ≡ without_flow r
+sum_too p r sum e f h = h ∙ ap (λ (l : List ℕ). spelled_in_parts l p.a 0) (sym e) ∙ ap (λ (l : List ℕ). spelled_in_parts r.d l 0) (sym f)

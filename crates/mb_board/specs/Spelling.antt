@@ -19,6 +19,17 @@ spelled_in_parts d a behind = (spelled d * 31 ^ 10 + spelled a * 31 ^ 2 + behind
 abbrev pub flow_of : Plain → ℕ
 flow_of p = p.pc * 31 + p.ccr
 
+-- what the registers before PC spell, with two zeros behind them
+abbrev pub without_flow : Plain → ℕ
+without_flow p = spelled_in_parts p.d p.a 0
+
+-- As far as the registers before PC go, these are those of `p`, and spell `front`; all of `p` spell `whole`.
+pub record Follow (p registers : Plain) (front whole : ℕ) : Type 0 where
+  pub d : registers.d ≡ p.d
+  pub a : registers.a ≡ p.a
+  pub sum : front ≡ without_flow p
+  pub spelled : Spell p whole
+
 -- A step was carried out, whose registers spell these at its beginning and at its end.
 abbrev pub IsRetired : (beginning end : ℕ) (native after : NativeState) → Type 0
 IsRetired beginning end native after =

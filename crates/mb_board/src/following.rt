@@ -2,7 +2,7 @@
 
 ghost use Rattle.std.specs.Prelude.{◌≡◌, ◌+◌, ◌-◌, ◌*◌, ◌%◌, ◌^◌, ◌<◌, ℕ, List};
 ghost use Rattle.mb_short.specs.Changed.{AgreeBut, Differ};
-ghost use Rattle.mb_board.specs.Spelling.{flow_of, spelled_in_parts, Spell};
+ghost use Rattle.mb_board.specs.Spelling.{flow_of, spelled_in_parts, without_flow, Spell};
 
 use crate::spelling::{fits, spelling};
 use mb_instr::Plain;
@@ -69,66 +69,71 @@ fn with_address(register: u8, sum: u64, before: &Plain, now: &Plain) -> u64
     with_digit(sum, place_of(8 + register), before.a[n], now.a[n])
 }
 
-/// The sum once PC and the condition codes have become others.
+/// What PC and the condition codes spell.
 #[inline(always)]
-fn with_flow(sum: u64, before: &Plain, now: &Plain) -> u64
-    ensures { (d : List ℕ) → (a : List ℕ) → sum ≡ spelled_in_parts d a (flow_of before.now)
-        → result ≡ spelled_in_parts d a (flow_of now.now) }
+fn flow_of(registers: &Plain) -> u64
+    ensures means { result ≡ flow_of registers.now }
+    ensures few { result < 2 ^ 40 }
 {
-    let counted = with_digit(sum, 31, before.pc, now.pc);
-    with_digit(counted, 1, u32::from(before.ccr), u32::from(now.ccr))
+    u64::from(registers.pc) * 31 + u64::from(registers.ccr)
 }
 
-/// What registers spell, of which before these spelled `sum`, where no more has changed than this.
+/// What registers spell, of which those before PC spell `sum` with two zeros behind them.
 #[inline(always)]
-pub(crate) fn spelled_on(changed: Changed, sum: u64, before: &Plain, now: &Plain) -> u64
-    requires differ { Differ changed before.now now.now }
-    requires spelled { Spell before.now sum }
-    ensures { Spell now.now result }
+pub(crate) fn with_flow(sum: u64, registers: &Plain) -> u64
+    requires { sum ≡ without_flow registers.now }
+    ensures { Spell registers.now result }
 {
-    fits(now);
-    match changed {
-        Changed::Nothing => with_flow(sum, before, now),
-        Changed::Data(n) => with_flow(with_data(n, sum, before, now), before, now),
-        Changed::Address(n) => with_flow(with_address(n, sum, before, now), before, now),
-        Changed::Both { data, address } => {
-            let counted = with_data(data, sum, before, now);
-            with_flow(with_address(address, counted, before, now), before, now)
-        }
-        Changed::Any => spelling(now),
-    }
+    fits(registers);
+    sum.wrapping_add(flow_of(registers))
+}
+
+/// What those before PC spell, with two zeros behind them, of registers that spell this.
+#[inline(always)]
+pub(crate) fn without_flow(spelled: u64, registers: &Plain) -> u64
+    requires { Spell registers.now spelled }
+    ensures { result ≡ without_flow registers.now }
+{
+    spelled.wrapping_sub(flow_of(registers))
 }
 
 /// PC and the condition codes become these.
 #[inline(always)]
-fn set_flow(registers: &mut Plain, now: &Plain)
+pub(crate) fn set_flow(registers: &mut Plain, now: &Plain)
     ensures { registers.new ≡ record registers.old { pc = now.now.pc; ccr = now.now.ccr } }
 {
     registers.pc = now.pc;
     registers.ccr = now.ccr;
 }
 
-/// Registers become these, of which no more differs from them than this.
+/// The registers before PC become these, of which no more differs than this, and the sum becomes what they spell.
 #[inline(always)]
-pub(crate) fn follow(changed: Changed, registers: &mut Plain, now: &Plain)
-    requires { Differ changed registers.old now.now }
-    ensures { registers.new ≡ now.now }
+pub(crate) fn follow(changed: Changed, sum: &mut u64, registers: &mut Plain, now: &Plain)
+    requires differ { Differ changed registers.old now.now }
+    requires sum { sum.old ≡ without_flow registers.old }
+    ensures d { registers.new.d ≡ now.now.d }
+    ensures a { registers.new.a ≡ now.now.a }
+    ensures sum { sum.new ≡ without_flow now.now }
 {
     match changed {
-        Changed::Nothing => set_flow(registers, now),
+        Changed::Nothing => {}
         Changed::Data(n) => {
+            *sum = with_data(n, *sum, registers, now);
             registers.d[n as usize] = now.d[n as usize];
-            set_flow(registers, now);
         }
         Changed::Address(n) => {
+            *sum = with_address(n, *sum, registers, now);
             registers.a[n as usize] = now.a[n as usize];
-            set_flow(registers, now);
         }
         Changed::Both { data, address } => {
+            let counted = with_data(data, *sum, registers, now);
+            *sum = with_address(address, counted, registers, now);
             registers.d[data as usize] = now.d[data as usize];
             registers.a[address as usize] = now.a[address as usize];
-            set_flow(registers, now);
         }
-        Changed::Any => *registers = *now,
+        Changed::Any => {
+            *sum = without_flow(spelling(now), now);
+            *registers = *now;
+        }
     }
 }

@@ -48,6 +48,18 @@ impl Native {
         }
     }
 
+    /// The same numbers.
+    #[inline(always)]
+    pub(crate) fn copied(&self) -> Native
+        ensures { result ≡ self.now }
+    {
+        Native {
+            retired: self.retired,
+            exceptions: self.exceptions,
+            trail: self.trail,
+        }
+    }
+
     /// How many steps were carried out: those that entered no exception and did not halt the board.
     pub fn retired(&self) -> u64
         ensures { result ≡ self.now.retired }

@@ -7,11 +7,11 @@ ghost use Rattle.def_runs.specs.declared.RunEnd.TheVariants.{Counted};
 ghost use Rattle.def_runs.specs.Native.{EndsBy, about_to_run, ended_by, ran_by, user_run, user_step, with_step};
 ghost use Rattle.mb_board.specs.Calm.{IsCalm};
 ghost use Rattle.mb_board.specs.Fits.{Continues, FitsAlong};
-ghost use Rattle.mb_board.specs.Spelling.{Spell};
+ghost use Rattle.mb_board.specs.Spelling.{Follow, Spell};
 ghost use Rattle.mb_board.specs.State.{ran_to, run_from};
 
 use crate::board::{Board, Core, NATIVE};
-use crate::following::{follow, spelled_on};
+use crate::following::{follow, set_flow, with_flow, without_flow};
 use crate::native::Native;
 use crate::spelling::spelling;
 use def_processor::Finish;
@@ -54,46 +54,79 @@ impl Core {
     }
 
     /// One more step of a run of a calm machine in user mode, where its instruction is carried out at once: then it is
-    /// counted, and the answer is true. Else nothing has changed. `before` has the registers at its beginning, which
-    /// spell `spelled`; both become those at its end.
+    /// counted, and the answer is true. Else nothing has changed. `registers`, `sum` and `spelled` follow the machine.
     #[inline(always)]
     fn run_on_at_once(
         &mut self,
-        space: Space,
         native: &mut Native,
-        before: &mut Plain,
+        registers: &mut Plain,
+        sum: &mut u64,
         spelled: &mut u64,
     ) -> bool
         requires calm { IsCalm self.old }
-        requires space { space ≡ space_of self.old.cpu }
+        requires space { Space.User ≡ space_of self.old.cpu }
         requires retired { native.old.retired + 1 < 2 ^ 64 }
-        requires before { before.old ≡ plain_of self.old.cpu.regs }
-        requires spelled { Spell before.old spelled.old }
+        requires follow { Follow (plain_of self.old.cpu.regs) registers.old sum.old spelled.old }
         ensures means { result ≡ true
-            → record { end = Counted; machine = self.new; native = native.new; before = before.old }
-            ≡ ran_by (user_step self.old) (about_to_run self.old native.old before.old) }
+            → record { end = Counted; machine = self.new; native = native.new; before = plain_of self.old.cpu.regs }
+            ≡ ran_by (user_step self.old) (about_to_run self.old native.old (plain_of self.old.cpu.regs)) }
         ensures undone { result ≡ false → self.new ≡ self.old }
         ensures uncounted { result ≡ false → native.new ≡ native.old }
-        ensures kept { result ≡ false → before.new ≡ before.old }
         ensures calm { IsCalm self.new }
         ensures space { space_of self.new.cpu ≡ space_of self.old.cpu }
-        ensures before { before.new ≡ plain_of self.new.cpu.regs }
-        ensures spelled { Spell before.new spelled.new }
+        ensures follow { Follow (plain_of self.new.cpu.regs) registers.new sum.new spelled.new }
         ensures ram { length self.new.world.ram ≡ length self.old.world.ram }
     {
-        let Some(changed) = self.step_at_once::<NATIVE>(space) else {
+        let Some(changed) = self.step_at_once::<NATIVE>(Space::User) else {
             return false;
         };
         let now = self.cpu.plain();
+        follow(changed, sum, registers, now);
         let beginning = *spelled;
-        *spelled = spelled_on(changed, beginning, before, now);
+        *spelled = with_flow(*sum, now);
         native.retire(beginning, *spelled);
-        follow(changed, before, now);
         true
     }
 
     /// Takes calm steps of a run in user mode that are carried out at once, at most so many, and counts them. Gives how
-    /// many they are.
+    /// many they are. `registers`, `sum` and `spelled` follow the machine.
+    #[inline(always)]
+    fn run_at_once_for(
+        &mut self,
+        limit: u32,
+        native: &mut Native,
+        registers: &mut Plain,
+        sum: &mut u64,
+        spelled: &mut u64,
+    ) -> u32
+        requires calm { IsCalm self.old }
+        requires space { Space.User ≡ space_of self.old.cpu }
+        requires retired { native.old.retired + limit < 2 ^ 64 }
+        requires follow { Follow (plain_of self.old.cpu.regs) registers.old sum.old spelled.old }
+        ensures within { result ≤ limit }
+        ensures means { (n : _) → limit < n
+            → Continues n (about_to_run self.old native.old (plain_of self.old.cpu.regs))
+            (n - result) (about_to_run self.new native.new (plain_of self.new.cpu.regs)) }
+        ensures retired { native.new.retired ≡ native.old.retired + result }
+        ensures exceptions { native.new.exceptions ≡ native.old.exceptions }
+        ensures follow { Follow (plain_of self.new.cpu.regs) registers.new sum.new spelled.new }
+        ensures ram { length self.new.world.ram ≡ length self.old.world.ram }
+    {
+        let mut taken = 0;
+        while taken < limit {
+            if !self.run_on_at_once(native, registers, sum, spelled) {
+                break;
+            }
+            taken += 1;
+        }
+        taken
+    }
+
+    /// Takes calm steps of a run in user mode that are carried out at once, at most so many, and counts them. Gives how
+    /// many they are. `before` has the registers at their beginning, which spell `spelled`; both become those at their
+    /// end.
+    ///
+    /// The steps change copies of what is counted, which need not stand in memory.
     #[inline(always)]
     fn run_calmly(
         &mut self,
@@ -117,14 +150,16 @@ impl Core {
         if !self.is_calm() {
             return 0;
         }
-        let space = self.cpu.space();
-        let mut taken = 0;
-        while taken < limit {
-            if !self.run_on_at_once(space, native, before, spelled) {
-                break;
-            }
-            taken += 1;
-        }
+        let Space::User = self.cpu.space() else {
+            return 0;
+        };
+        let mut counted = native.copied();
+        let mut sum = without_flow(*spelled, before);
+        let mut at_end = *spelled;
+        let taken = self.run_at_once_for(limit, &mut counted, before, &mut sum, &mut at_end);
+        set_flow(before, self.cpu.plain());
+        *spelled = at_end;
+        *native = counted;
         taken
     }
 

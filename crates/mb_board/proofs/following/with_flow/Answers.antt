@@ -1,7 +1,7 @@
-use Rattle.mb_board.proofs.Followed.{flow_spelled}
+use Rattle.std.proofs.Common.{refl}
+use Rattle.mb_board.proofs.Followed.{flow_counted}
 use Rattle.mb_board.proofs.following.with_flow.Goals as goal
 
 pub returns : goal.returns
 returns c =
-    flow_spelled c.args.before.now c.args.now.now c.args.sum c.with_digit-counted.result c.with_digit.result c.with_digit-counted.ensures
-    (rw (c.from.ensures, c.from-2.ensures) at c.with_digit.ensures) (assumption c.with_digit)
+    flow_counted c.args.registers.now c.args.sum c.flow_of.result _ c.fits.ensures.numbers c.fits.ensures.fit c.requires c.flow_of.ensures.means refl
