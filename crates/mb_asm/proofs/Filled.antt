@@ -33,7 +33,8 @@ use Rattle.mb_mnemonics.specs.declared.pattern.Pattern.{Pattern}
 use Rattle.mb_mnemonics.specs.declared.pattern.Pattern.TheVariants as pattern
 use Rattle.mb_mnemonics.specs.declared.range.Range.{Range}
 use Rattle.mb_mnemonics.specs.declared.range.Range.TheVariants as range
-use Rattle.mb_mnemonics.specs.Lines.{Entry, condition_by, lines}
+use Rattle.mb_mnemonics.specs.declared.line.Line.{Line}
+use Rattle.mb_mnemonics.specs.Lines.{condition_by, lines, patterns_of}
 use Rattle.mb_mnemonics.specs.Means.{Form, form_among, form_by, is_named, meaning, meaning_by, said, size_by, told, words_said}
 use Rattle.mb_instr.specs.Operands.{immediate, long_words}
 use Rattle.mb_mnemonics.specs.Modes.{base_displacement, brief, displacement_words, extension_words, from_pc, full, full_word, is_word, mode_words, outer_of}
@@ -506,35 +507,35 @@ operands_near (p ∷ ps) s i j c f g (o ∷ os) a b small fills takes h =
 -- ---- statements
 
 -- a line has at most three operands, and two words before theirs
-abbrev pub is_short : Entry → Bool
-is_short l = nat_le (length l.operands) 3 && nat_le l.words 2
+abbrev pub is_short : Line → Bool
+is_short l = nat_le (length (patterns_of l.operands)) 3 && nat_le l.words 2
 
 all_short : list_all is_short lines ≡ true
 unfolding lines
 all_short = refl
 
-abbrev pub form_at : Entry → Condition → Size → Form
-form_at l c s = record { entry = l; condition = c; size = s }
+abbrev pub form_at : Line → Condition → Size → Form
+form_at l c s = record { line = l; condition = c; size = s }
 
 -- a form that is a line's, and takes the operands
 record IsForm (t : Form) (os : List (Operand ℤ)) : Type 0 where
-  pub short : is_short t.entry ≡ true
-  pub takes : takes_operands t.entry.operands t.size os ≡ true
+  pub short : is_short t.line ≡ true
+  pub takes : takes_operands (patterns_of t.line.operands) t.size os ≡ true
 
 if_some : {A : Type 0} (b : Bool) (x y : A) → (if b then Some x else None) ≡ Some y → (b ≡ true) × (x ≡ y)
 if_some true x y e = (refl, cc)
 if_some false x y e = absurd cc
 
-line_form : (l : Entry) (name : List ℕ) (letter : Option SizeLetter) (os : List (Operand ℤ)) (t : Form) → is_short l ≡ true
+line_form : (l : Line) (name : List ℕ) (letter : Option SizeLetter) (os : List (Operand ℤ)) (t : Form) → is_short l ≡ true
     → form_by l name letter os ≡ Some t → IsForm t os
 line_form l name letter os t short h =
     let c = chained (λ x. option_map (form_at l x) (size_by l letter os)) (condition_by l name) t h in
     let s = mapped (form_at l c.0) (size_by l letter os) t c.1.1 in
-    let z = chained (λ x. if takes_operands l.operands x os then Some x else None) (size_in l.sizes letter) s.0 s.1.0 in
-    let k = if_some (takes_operands l.operands z.0 os) z.0 s.0 z.1.1 in
+    let z = chained (λ x. if takes_operands (patterns_of l.operands) x os then Some x else None) (size_in l.sizes letter) s.0 s.1.0 in
+    let k = if_some (takes_operands (patterns_of l.operands) z.0 os) z.0 s.0 z.1.1 in
     subst (λ y. IsForm y os) s.1.1 (subst (λ y. IsForm (form_at l c.0 y) os) k.1 (record { short = short; takes = k.0 }))
 
-form_is : (ls : List Entry) (name : List ℕ) (letter : Option SizeLetter) (os : List (Operand ℤ)) (t : Form)
+form_is : (ls : List Line) (name : List ℕ) (letter : Option SizeLetter) (os : List (Operand ℤ)) (t : Form)
     → list_all is_short ls ≡ true → form_among ls name letter os ≡ Some t → IsForm t os
 form_is [] name letter os t short h = absurd cc
 form_is (l ∷ ls) name letter os t short h =
@@ -550,15 +551,15 @@ le_is m n h = grind (arith, nat_tests)
 said_near : (t : Form) (i j : ℕ) (f g : Marked → ℤ) (os : List (Operand Sum)) → IsForm t (map (valued g) (map marked os)) → Fills i j f g
     → is_some (said t (map (valued g) (map marked os)) j) ≡ true → is_some (said t (map (valued f) (map marked os)) i) ≡ true
 said_near t i j f g os form fills h =
-    let both = and_is (nat_le (length t.entry.operands) 3) (nat_le t.entry.words 2) form.short in
-    let a = le_is (length t.entry.operands) 3 both.0 in
-    let b = le_is t.entry.words 2 both.1 in
-    let c = 2 + 2 * t.entry.words in
-    let small : c + 10 * length t.entry.operands ≤ 60 = omega arith in
+    let both = and_is (nat_le (length (patterns_of t.line.operands)) 3) (nat_le t.line.words 2) form.short in
+    let a = le_is (length (patterns_of t.line.operands)) 3 both.0 in
+    let b = le_is t.line.words 2 both.1 in
+    let c = 2 + 2 * t.line.words in
+    let small : c + 10 * length (patterns_of t.line.operands) ≤ 60 = omega arith in
     map_some (words_said t) (words_said t)
-    (operands_said t.entry.operands t.size i ((i + c) % 4294967296) (map (valued f) (map marked os)) (in_first 0))
-    (operands_said t.entry.operands t.size j ((j + c) % 4294967296) (map (valued g) (map marked os)) (in_first 0))
-    (operands_near t.entry.operands t.size i j c f g os (in_first 0) (in_first 0) small fills form.takes) h
+    (operands_said (patterns_of t.line.operands) t.size i ((i + c) % 4294967296) (map (valued f) (map marked os)) (in_first 0))
+    (operands_said (patterns_of t.line.operands) t.size j ((j + c) % 4294967296) (map (valued g) (map marked os)) (in_first 0))
+    (operands_near (patterns_of t.line.operands) t.size i j c f g os (in_first 0) (in_first 0) small fills form.takes) h
 
 out_is : (r : Result Instr MeansFault) → is_out r ≡ true → r ≡ Err fault.Range
 out_is (Ok i) h = absurd cc

@@ -4,7 +4,8 @@ use Rattle.std.proofs.lemmas.List.{length-take}
 use Rattle.std.specs.Prelude.{Bool, true, false, if◌then◌else◌, slice_index, All, Option, Some, None, option_and_then, unwrap_or, ⊤}
 use Rattle.std.specs.Option.{option_or}
 use Rattle.std.proofs.lemmas.List.Elements.{All-cons, All-drop, All-nil, All-head, All-tail, All-take}
-use Rattle.mb_mnemonics.specs.Lines.{Entry, lines}
+use Rattle.mb_mnemonics.specs.declared.line.Line.{Line as Mnemonic}
+use Rattle.mb_mnemonics.specs.Lines.{lines}
 use Rattle.mb_statement.specs.Statements.{Reading, Statement, has_bits, reading_by}
 use Rattle.mb_statement.specs.Texts.{statement_text}
 use Rattle.mb_listing.specs.Listing.{Line, data_line, line_among, line_at, line_by, says}
@@ -41,7 +42,7 @@ module _ (P : Line → Type 0) (at : ℕ) (words : List ℕ)
   either_so None b h k = k
   either_so (Some line) b h k = h
 
-  line_among_so : (ls : List Entry) → Made (line_among ls at words)
+  line_among_so : (ls : List Mnemonic) → Made (line_among ls at words)
   line_among_so [] = tt
   line_among_so (l ∷ ls) =
       either_so (line_by l at words) (line_among ls at words) (read_so (has_bits l (slice_index words 0)) (reading_by l at words)) (line_among_so ls)

@@ -12,7 +12,9 @@ use Rattle.mb_instr.specs.declared.kinds.Condition.{Condition}
 use Rattle.mb_syntax.specs.declared.statement.SizeLetter.{SizeLetter}
 use Rattle.mb_syntax.specs.declared.operand.Operand.{Operand}
 use Rattle.mb_syntax.specs.Tables.{found_in}
-use Rattle.mb_mnemonics.specs.Lines.{Entry, NameOf, condition_by, condition_in, endings, lines, same_letters}
+use Rattle.mb_mnemonics.specs.declared.endings.NameOf.{NameOf}
+use Rattle.mb_mnemonics.specs.declared.line.Line.{Line}
+use Rattle.mb_mnemonics.specs.Lines.{condition_by, condition_in, endings, lines, same_letters, stem_of}
 use Rattle.mb_mnemonics.specs.Means.{is_named, meaning}
 use Rattle.mb_mnemonics.proofs.Names.{unnamed}
 use Rattle.mb_asm.specs.Directives.{directives}
@@ -35,19 +37,19 @@ module _ (a b : List ℕ) (alike : str_to_ascii_lowercase a ≡ str_to_ascii_low
   same_ending : (ns : List NameOf) (n : ℕ) → condition_in ns (drop n a) ≡ condition_in ns (drop n b)
   same_ending [] n = refl
   same_ending (name ∷ ns) n =
-      let first : same_letters name.name (drop n a) ≡ same_letters name.name (drop n b) = ap (bytes_eq (str_to_ascii_lowercase name.name)) (ends_alike n) in
+      let first : same_letters (stem_of name.name) (drop n a) ≡ same_letters (stem_of name.name) (drop n b) = ap (bytes_eq (str_to_ascii_lowercase (stem_of name.name))) (ends_alike n) in
       ap (λ (test : Bool). if test then Some name.condition else condition_in ns (drop n a)) first
-      ∙ ap (λ (rest : Option Condition). if same_letters name.name (drop n b) then Some name.condition else rest) (same_ending ns n)
+      ∙ ap (λ (rest : Option Condition). if same_letters (stem_of name.name) (drop n b) then Some name.condition else rest) (same_ending ns n)
 
-  same_condition : (l : Entry) → condition_by l a ≡ condition_by l b
+  same_condition : (l : Line) → condition_by l a ≡ condition_by l b
   same_condition l =
-      let n = length l.stem in
-      ap (λ (m : ℕ). if nat_lt m n then None else (if same_letters l.stem (take n a) then condition_in (endings l.ending) (drop n a) else None)) as_long
-      ∙ ap (λ (test : Bool). if nat_lt (length b) n then None else (if test then condition_in (endings l.ending) (drop n a) else None)) (same_front l.stem n)
-      ∙ ap (λ (c : Option Condition). if nat_lt (length b) n then None else (if same_letters l.stem (take n b) then c else None))
+      let n = length (stem_of l.stem) in
+      ap (λ (m : ℕ). if nat_lt m n then None else (if same_letters (stem_of l.stem) (take n a) then condition_in (endings l.ending) (drop n a) else None)) as_long
+      ∙ ap (λ (test : Bool). if nat_lt (length b) n then None else (if test then condition_in (endings l.ending) (drop n a) else None)) (same_front (stem_of l.stem) n)
+      ∙ ap (λ (c : Option Condition). if nat_lt (length b) n then None else (if same_letters (stem_of l.stem) (take n b) then c else None))
       (same_ending (endings l.ending) n)
 
-  same_named : (ls : List Entry) → is_named ls a ≡ is_named ls b
+  same_named : (ls : List Line) → is_named ls a ≡ is_named ls b
   same_named [] = refl
   same_named (l ∷ ls) =
       ap (λ (c : Option Condition). is_some c || is_named ls a) (same_condition l)

@@ -9,7 +9,8 @@ use Rattle.mb_instr.specs.declared.instruction.Instr.{Instr}
 use Rattle.mb_instr.specs.Codes.{words_of}
 use Rattle.mb_instr.specs.Rows.{row}
 use Rattle.mb_mnemonics.specs.declared.fault.MeansFault.{MeansFault}
-use Rattle.mb_mnemonics.specs.Lines.{Entry, lines}
+use Rattle.mb_mnemonics.specs.declared.line.Line.{Line as Mnemonic}
+use Rattle.mb_mnemonics.specs.Lines.{lines}
 use Rattle.mb_mnemonics.specs.Means.{meaning}
 use Rattle.mb_report.specs.Digits.{digits, hex8}
 use Rattle.mb_statement.specs.Numbers.{number}
@@ -51,12 +52,12 @@ line_read at words r =
     then Some (record { at = at; words = take r.words words; text = statement_text r.statement }) else None
 
 -- the line that a line of the table of mnemonics makes of the words at an address
-abbrev pub line_by : Entry → ℕ → List ℕ → Option Line
+abbrev pub line_by : Mnemonic → ℕ → List ℕ → Option Line
 line_by l at words =
     if has_bits l (slice_index words 0)
     then option_and_then (λ r. line_read at words r) (reading_by l at words) else None
 
-abbrev pub line_among : List Entry → ℕ → List ℕ → Option Line
+abbrev pub line_among : List Mnemonic → ℕ → List ℕ → Option Line
 line_among [] at words = None
 line_among (l ∷ ls) at words = option_or (line_by l at words) (line_among ls at words)
 

@@ -1,11 +1,10 @@
 //! Lines of the listing.
 
-ghost use Rattle.std.specs.Prelude.{◌≡◌, ◌+◌, ◌*◌, ◌<◌, ◌≤◌, ◌++◌, IfSome, IsTrue, codes, length, map};
+ghost use Rattle.std.specs.Prelude.{◌≡◌, ◌+◌, ◌*◌, ◌<◌, ◌≤◌, ◌++◌, IfSome, IsTrue, codes, length};
 ghost use Rattle.std.specs.Prelude.{option_and_then, option_map, slice_index, take};
 ghost use Rattle.std.specs.List.{list_all};
 ghost use Rattle.arrayvec.specs.ArrayVec.{array_vec_len};
 ghost use Rattle.mb_mnemonics.specs.Code.{is_short};
-ghost use Rattle.mb_mnemonics.specs.Lines.{entry_of};
 ghost use Rattle.mb_mnemonics.specs.Means.{meaning};
 ghost use Rattle.mb_statement.specs.Numbers.{number};
 ghost use Rattle.mb_statement.specs.Texts.{statement_text};
@@ -118,7 +117,7 @@ fn says(at: u32, words: &[u16], statement: &Statement) -> bool
 fn line_read<'w>(mnemonic: &Mnemonic, at: u32, words: &'w [u16]) -> Option<Line<'w>>
     requires { IsTrue (is_short mnemonic.now) }
     ensures line { option_map line_said result
-        ≡ option_and_then (λ r. line_read at words.now r) (reading_by (entry_of mnemonic.now) at words.now) }
+        ≡ option_and_then (λ r. line_read at words.now r) (reading_by mnemonic.now at words.now) }
     ensures few { IfSome result (λ line. length line.words.now ≤ length words.now) }
     ensures short { IfSome result (λ line. array_vec_len line.text ≤ 301) }
 {
@@ -142,7 +141,7 @@ fn line_read<'w>(mnemonic: &Mnemonic, at: u32, words: &'w [u16]) -> Option<Line<
 fn line_among<'w>(mnemonics: &[Mnemonic], at: u32, words: &'w [u16]) -> Option<Line<'w>>
     requires some { 0 < length words.now }
     requires short { IsTrue (list_all is_short mnemonics.now) }
-    ensures line { option_map line_said result ≡ line_among (map entry_of mnemonics.now) at words.now }
+    ensures line { option_map line_said result ≡ line_among mnemonics.now at words.now }
     ensures few { IfSome result (λ line. length line.words.now ≤ length words.now) }
     ensures short { IfSome result (λ line. array_vec_len line.text ≤ 301) }
 {

@@ -1,5 +1,5 @@
 -- The words of the instruction that a statement means are as many as its length says.
-use Rattle.std.proofs.Common.{◌≡◌, ℕ, zero, suc, ◌+◌, ◌*◌, ◌%◌, ◌^◌, ◌<◌, ◌≤◌, Bool, true, false, List, [], ◌∷◌, ◌++◌, length, take, Option, Some, None}
+use Rattle.std.proofs.Common.{◌≡◌, ℕ, zero, suc, ◌+◌, ◌*◌, ◌%◌, ◌^◌, ◌<◌, ◌≤◌, Bool, true, false, List, [], ◌∷◌, length, take, Option, Some, None}
 use Rattle.std.proofs.Common.{Ok, Err, refl, sym, ap, subst, ◌∙◌, arith}
 use Rattle.std.specs.Prelude.{ℤ, ◌&&◌, ◌==◌, nat_le, if◌then◌else◌, ok_or, option_map}
 use Rattle.std.specs.List.{list_all}
@@ -10,7 +10,6 @@ use Rattle.mb_instr.specs.declared.kinds.Condition.{Condition}
 use Rattle.mb_instr.specs.declared.instruction.Instr.{Instr}
 use Rattle.mb_instr.specs.Rows.{row}
 use Rattle.mb_instr.specs.Codes.{AreWords, words_of}
-use Rattle.mb_instr.proofs.Words.{AreWords-cons, AreWords-nil}
 use Rattle.mb_decode.specs.declared.front.Decoded.{Decoded}
 use Rattle.mb_decode.specs.declared.front.Decoded.TheVariants.{Whole}
 use Rattle.mb_decode.specs.Decodes.{Decodes, decode_of}
@@ -19,18 +18,19 @@ use Rattle.mb_syntax.specs.declared.operand.Operand.{Operand}
 use Rattle.mb_syntax.specs.declared.statement.SizeLetter.{SizeLetter}
 use Rattle.mb_mnemonics.specs.declared.fault.MeansFault.{MeansFault}
 use Rattle.mb_mnemonics.specs.declared.fault.MeansFault.TheVariants as fault
-use Rattle.mb_mnemonics.specs.Lines.{Entry, condition_by, lines}
+use Rattle.mb_mnemonics.specs.declared.line.Line.{Line}
+use Rattle.mb_mnemonics.specs.Lines.{condition_by, lines, patterns_of}
 use Rattle.mb_mnemonics.specs.Means.{Form, first_word, form_among, form_by, form_length, is_named, length_by, length_of_form, meaning, meaning_by, said}
 use Rattle.mb_mnemonics.specs.Means.{size_by, told, whole, words_said}
-use Rattle.mb_mnemonics.specs.Operands.{Said, in_first, operands_said, operands_words, takes_operands}
+use Rattle.mb_mnemonics.specs.Operands.{in_first, operands_said, operands_words, takes_operands}
 use Rattle.mb_mnemonics.specs.Sizes.{size_in}
 use Rattle.mb_mnemonics.proofs.ModeWords.{Fits, both_fit, chained, mapped, none_fits, one_fits}
-use Rattle.mb_mnemonics.proofs.OperandWords.{AllFit, operands_fit}
+use Rattle.mb_mnemonics.proofs.OperandWords.{operands_fit}
 
 -- ---- forms
 
 -- a line has at most two words before those of its operands
-abbrev is_short : Entry → Bool
+abbrev is_short : Line → Bool
 is_short l = nat_le l.words 2
 
 all_short : list_all is_short lines ≡ true
@@ -51,28 +51,28 @@ if_some : {A : Type 0} (b : Bool) (x y : A) → (if b then Some x else None) ≡
 if_some true x y e = (refl, cc)
 if_some false x y e = absurd cc
 
-abbrev form_at : Entry → Condition → Size → Form
-form_at l c s = record { entry = l; condition = c; size = s }
+abbrev form_at : Line → Condition → Size → Form
+form_at l c s = record { line = l; condition = c; size = s }
 
 -- a form is one of its line's, and takes the operands
 record IsForm (f : Form) (os : List (Operand ℤ)) : Type 0 where
-  pub short : is_short f.entry ≡ true
-  pub takes : takes_operands f.entry.operands f.size os ≡ true
+  pub short : is_short f.line ≡ true
+  pub takes : takes_operands (patterns_of f.line.operands) f.size os ≡ true
 
 or_is : {P : Type 0} (a b : Option Form) (f : Form) → option_or a b ≡ Some f → (a ≡ Some f → P) → (b ≡ Some f → P) → P
 or_is None b f h p q = q h
 or_is (Some x) b f h p q = p h
 
-line_form : (l : Entry) (name : List ℕ) (letter : Option SizeLetter) (os : List (Operand ℤ)) (f : Form)
+line_form : (l : Line) (name : List ℕ) (letter : Option SizeLetter) (os : List (Operand ℤ)) (f : Form)
     → is_short l ≡ true → form_by l name letter os ≡ Some f → IsForm f os
 line_form l name letter os f e h =
     let c = chained (λ x. option_map (form_at l x) (size_by l letter os)) (condition_by l name) f h in
     let s = mapped (form_at l c.0) (size_by l letter os) f c.1.1 in
-    let z = chained (λ s. if takes_operands l.operands s os then Some s else None) (size_in l.sizes letter) s.0 s.1.0 in
-    let k = if_some (takes_operands l.operands z.0 os) z.0 s.0 z.1.1 in
+    let z = chained (λ s. if takes_operands (patterns_of l.operands) s os then Some s else None) (size_in l.sizes letter) s.0 s.1.0 in
+    let k = if_some (takes_operands (patterns_of l.operands) z.0 os) z.0 s.0 z.1.1 in
     subst (λ y. IsForm y os) s.1.1 (subst (λ y. IsForm (form_at l c.0 y) os) k.1 (record { short = e; takes = k.0 }))
 
-form_is : (ls : List Entry) (name : List ℕ) (letter : Option SizeLetter) (os : List (Operand ℤ)) (f : Form)
+form_is : (ls : List Line) (name : List ℕ) (letter : Option SizeLetter) (os : List (Operand ℤ)) (f : Form)
     → list_all is_short ls ≡ true → form_among ls name letter os ≡ Some f → IsForm f os
 form_is [] name letter os f e h = absurd cc
 form_is (l ∷ ls) name letter os f e h =
@@ -89,16 +89,16 @@ front_fits (suc (suc zero)) a b h x y = both_fit 1 1 (a ∷ []) (b ∷ []) (one_
 front_fits (suc (suc (suc n))) a b h x y = absurd (omega arith)
 
 form_fits : (f : Form) (os : List (Operand ℤ)) (at : ℕ) (ws : List ℕ) → IsForm f os → said f os at ≡ Some ws
-    → Fits (1 + f.entry.words + operands_words f.entry.operands f.size os) ws
+    → Fits (1 + f.line.words + operands_words (patterns_of f.line.operands) f.size os) ws
 form_fits f os at ws h e =
-    let l = f.entry in
-    let p = mapped (words_said f) (operands_said l.operands f.size at ((at + (2 + 2 * l.words)) % 2 ^ 32) os (in_first 0)) ws e in
-    let all = operands_fit l.operands f.size at ((at + (2 + 2 * l.words)) % 2 ^ 32) 0 os (in_first 0) p.0 h.takes
+    let l = f.line in
+    let p = mapped (words_said f) (operands_said (patterns_of l.operands) f.size at ((at + (2 + 2 * l.words)) % 2 ^ 32) os (in_first 0)) ws e in
+    let all = operands_fit (patterns_of l.operands) f.size at ((at + (2 + 2 * l.words)) % 2 ^ 32) 0 os (in_first 0) p.0 h.takes
     (record { own = none_fits; third = omega arith }) p.1.0 in
     let second = (l.second + (p.0).second) % 2 ^ 16 in
     let front = front_fits l.words second (p.0).third (le_is l.words 2 h.short) (omega arith) all.third in
     let first = both_fit 1 l.words (first_word f p.0 ∷ []) (take l.words (second ∷ (p.0).third ∷ [])) (one_fits (first_word f p.0) (omega arith)) front in
-    let n = operands_words l.operands f.size os in
+    let n = operands_words (patterns_of l.operands) f.size os in
     let none : 0 + n ≡ n = omega arith in
     subst (λ x. Fits (1 + l.words + n) x) p.1.1
     (both_fit (1 + l.words) n _ (p.0).own first (subst (λ k. Fits k (p.0).own) none all.own))

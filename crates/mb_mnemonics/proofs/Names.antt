@@ -9,7 +9,8 @@ use Rattle.mb_decode.specs.declared.front.Decoded.TheVariants.{Whole}
 use Rattle.mb_decode.specs.Decodes.{decode_of}
 use Rattle.mb_mnemonics.specs.declared.fault.MeansFault.{MeansFault}
 use Rattle.mb_mnemonics.specs.declared.fault.MeansFault.TheVariants as fault
-use Rattle.mb_mnemonics.specs.Lines.{Entry, condition_by, lines}
+use Rattle.mb_mnemonics.specs.declared.line.Line.{Line}
+use Rattle.mb_mnemonics.specs.Lines.{condition_by, lines}
 use Rattle.mb_mnemonics.specs.Means.{Form, form_by, form_among, is_named, said, told, whole, meaning_by, meaning}
 
 neither : (a b : Bool) → (a || b) ≡ false → (a ≡ false) × (b ≡ false)
@@ -20,11 +21,11 @@ is_none : {A : Type 0} (o : Option A) → is_some o ≡ false → o ≡ None
 is_none None e = refl
 is_none (Some x) e = absurd cc
 
-not_by : (l : Entry) (name : List ℕ) (letter : Option SizeLetter) (os : List (Operand ℤ))
+not_by : (l : Line) (name : List ℕ) (letter : Option SizeLetter) (os : List (Operand ℤ))
     → condition_by l name ≡ None → form_by l name letter os ≡ None
 not_by l name letter os e = rw e refl
 
-not_among : (ls : List Entry) (name : List ℕ) (letter : Option SizeLetter) (os : List (Operand ℤ))
+not_among : (ls : List Line) (name : List ℕ) (letter : Option SizeLetter) (os : List (Operand ℤ))
     → is_named ls name ≡ false → form_among ls name letter os ≡ None
 not_among [] name letter os e = refl
 not_among (l ∷ ls) name letter os e =

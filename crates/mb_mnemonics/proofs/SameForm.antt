@@ -15,7 +15,8 @@ use Rattle.mb_mnemonics.specs.declared.pattern.Pattern.{Pattern}
 use Rattle.mb_mnemonics.specs.declared.pattern.Pattern.TheVariants as pattern
 use Rattle.mb_instr.specs.declared.size.Size.TheVariants as size
 use Rattle.mb_mnemonics.specs.Sizes.{size_in}
-use Rattle.mb_mnemonics.specs.Lines.{Entry, lines}
+use Rattle.mb_mnemonics.specs.declared.line.Line.{Line}
+use Rattle.mb_mnemonics.specs.Lines.{lines, patterns_of}
 use Rattle.mb_mnemonics.specs.Modes.{displacement_words, outer_of, mode_words}
 use Rattle.mb_mnemonics.specs.Operands.{takes_mode, takes_field, takes_operand, takes_operands, operand_words, operands_words}
 use Rattle.mb_mnemonics.specs.Values.{valued_displacement, valued_form, valued_mode, valued}
@@ -133,20 +134,20 @@ operands_words_same f g [] s (o ∷ os) = refl
 operands_words_same f g (p ∷ ps) s [] = refl
 operands_words_same f g (p ∷ ps) s (o ∷ os) = rw (operand_words_same f g p s o, operands_words_same f g ps s os) refl
 
-size_by_same : {E : Type 0} (f g : E → ℤ) (l : Entry) (letter : Option SizeLetter) (os : List (Operand E))
+size_by_same : {E : Type 0} (f g : E → ℤ) (l : Line) (letter : Option SizeLetter) (os : List (Operand E))
     → size_by l letter (map (valued f) os) ≡ size_by l letter (map (valued g) os)
 size_by_same f g l letter os = elim (size_in l.sizes letter) as (λ o.
-    option_and_then (λ s. if takes_operands l.operands s (map (valued f) os) then Some s else None) o
-    ≡ option_and_then (λ s. if takes_operands l.operands s (map (valued g) os) then Some s else None) o) [
+    option_and_then (λ s. if takes_operands (patterns_of l.operands) s (map (valued f) os) then Some s else None) o
+    ≡ option_and_then (λ s. if takes_operands (patterns_of l.operands) s (map (valued g) os) then Some s else None) o) [
       | None ↦ refl
-      | Some s ↦ rw (takes_all_same f g l.operands s os) refl
+      | Some s ↦ rw (takes_all_same f g (patterns_of l.operands) s os) refl
     ]
 
-form_by_same : {E : Type 0} (f g : E → ℤ) (l : Entry) (name : List ℕ) (letter : Option SizeLetter) (os : List (Operand E))
+form_by_same : {E : Type 0} (f g : E → ℤ) (l : Line) (name : List ℕ) (letter : Option SizeLetter) (os : List (Operand E))
     → form_by l name letter (map (valued f) os) ≡ form_by l name letter (map (valued g) os)
 form_by_same f g l name letter os = rw (size_by_same f g l letter os) refl
 
-form_among_same : {E : Type 0} (f g : E → ℤ) (ls : List Entry) (name : List ℕ) (letter : Option SizeLetter) (os : List (Operand E))
+form_among_same : {E : Type 0} (f g : E → ℤ) (ls : List Line) (name : List ℕ) (letter : Option SizeLetter) (os : List (Operand E))
     → form_among ls name letter (map (valued f) os) ≡ form_among ls name letter (map (valued g) os)
 form_among_same f g [] name letter os = refl
 form_among_same f g (l ∷ ls) name letter os =
@@ -161,5 +162,5 @@ pub length_by_same : {E : Type 0} (f g : E → ℤ) (name : List ℕ) (letter : 
 length_by_same f g name letter os = rw (form_of_same f g name letter os) (elim (form_of name letter (map (valued g) os)) as (λ r.
     length_of_form r (map (valued f) os) ≡ length_of_form r (map (valued g) os)) [
       | Err e ↦ refl
-      | Ok t ↦ rw (operands_words_same f g t.entry.operands t.size os) refl
+      | Ok t ↦ rw (operands_words_same f g (patterns_of t.line.operands) t.size os) refl
     ])

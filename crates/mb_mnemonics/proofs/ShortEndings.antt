@@ -4,10 +4,11 @@ use Rattle.std.specs.Prelude.{◌&&◌, ◌==◌, nat_le, if◌then◌else◌}
 use Rattle.std.specs.List.{list_all}
 use Rattle.std.proofs.lemmas.Bool.Decides.{nat_tests}
 use Rattle.mb_instr.specs.Kinds.{condition_bits}
+use Rattle.mb_mnemonics.specs.declared.endings.NameOf.{NameOf}
 use Rattle.mb_mnemonics.specs.declared.line.Ending.{Ending}
 use Rattle.mb_mnemonics.specs.declared.line.Ending.TheVariants as ending
 use Rattle.mb_mnemonics.specs.Code.{most_ending}
-use Rattle.mb_mnemonics.specs.Lines.{NameOf, ending_name, endings}
+use Rattle.mb_mnemonics.specs.Lines.{ending_name, endings, stem_of}
 
 and_is : (a b : Bool) → (a && b) ≡ true → (a ≡ true) × (b ≡ true)
 and_is true b e = (refl, e)
@@ -17,15 +18,15 @@ le_is : (a b : ℕ) → nat_le a b ≡ true → a ≤ b
 le_is a b h = grind (arith, nat_tests)
 
 abbrev pub is_short : ℕ → NameOf → Bool
-is_short most n = nat_le (length n.name) most
+is_short most n = nat_le (length (stem_of n.name)) most
 
 short_among : (most : ℕ) (ns : List NameOf) (number : ℕ) → list_all (is_short most) ns ≡ true
     → length (ending_name ns number) ≤ most
 short_among most [] number h = zero-le
 short_among most (n ∷ ns) number h =
     let parts = and_is (is_short most n) (list_all (is_short most) ns) h in
-    elim (condition_bits n.condition == number) as (λ b. length (if b then n.name else ending_name ns number) ≤ most) [
-      | true ↦ le_is (length n.name) most parts.0
+    elim (condition_bits n.condition == number) as (λ b. length (if b then stem_of n.name else ending_name ns number) ≤ most) [
+      | true ↦ le_is (length (stem_of n.name)) most parts.0
       | false ↦ short_among most ns number parts.1
     ]
 

@@ -17,40 +17,41 @@ use Rattle.mb_mnemonics.specs.declared.fault.MeansFault.{MeansFault}
 use Rattle.mb_mnemonics.specs.declared.fault.MeansFault.TheVariants as fault
 use Rattle.mb_mnemonics.specs.Sizes.{size_in, size_bits_by}
 use Rattle.mb_mnemonics.specs.declared.front.Form.{Form as CodeForm}
-use Rattle.mb_mnemonics.specs.Lines.{Entry, entry_of, condition_by, lines}
+use Rattle.mb_mnemonics.specs.declared.line.Line.{Line}
+use Rattle.mb_mnemonics.specs.Lines.{condition_by, lines, patterns_of}
 use Rattle.mb_mnemonics.specs.Operands.{Said, takes_operands, operands_words, in_first, operands_said}
 
 -- a line that a statement is written by, with the condition that the name says and the size
 pub record Form : Type 0 where
-  pub entry : Entry
+  pub line : Line
   pub condition : Condition
   pub size : Size
 
 -- a form as the code has it
 abbrev pub form_said : CodeForm → Form
-form_said f = record { entry = entry_of f.line.now; condition = f.condition; size = f.size }
+form_said f = record { line = f.line.now; condition = f.condition; size = f.size }
 
 abbrev pub said_form : Result CodeForm MeansFault → Result Form MeansFault
 said_form (Ok f) = Ok (form_said f)
 said_form (Err e) = Err e
 
 -- the size by a line, where the line has it and takes the operands with it
-abbrev pub size_by : Entry → Option SizeLetter → List (Operand ℤ) → Option Size
+abbrev pub size_by : Line → Option SizeLetter → List (Operand ℤ) → Option Size
 size_by l letter os = option_and_then
-    (λ s. if takes_operands l.operands s os then Some s else None) (size_in l.sizes letter)
+    (λ s. if takes_operands (patterns_of l.operands) s os then Some s else None) (size_in l.sizes letter)
 
 -- a statement by a line
-abbrev pub form_by : Entry → List ℕ → Option SizeLetter → List (Operand ℤ) → Option Form
+abbrev pub form_by : Line → List ℕ → Option SizeLetter → List (Operand ℤ) → Option Form
 form_by l name letter os = option_and_then
-    (λ c. option_map (λ s. record { entry = l; condition = c; size = s }) (size_by l letter os)) (condition_by l name)
+    (λ c. option_map (λ s. record { line = l; condition = c; size = s }) (size_by l letter os)) (condition_by l name)
 
 -- the first of the lines that a statement is written by
-abbrev pub form_among : List Entry → List ℕ → Option SizeLetter → List (Operand ℤ) → Option Form
+abbrev pub form_among : List Line → List ℕ → Option SizeLetter → List (Operand ℤ) → Option Form
 form_among [] name letter os = None
 form_among (l ∷ ls) name letter os = option_or (form_by l name letter os) (form_among ls name letter os)
 
 -- whether one of the lines has the name
-abbrev pub is_named : List Entry → List ℕ → Bool
+abbrev pub is_named : List Line → List ℕ → Bool
 is_named ls name = list_any (λ l. is_some (condition_by l name)) ls
 
 -- The form of a statement: no line has its name, or none of those that have it has its size and its operands. Numbers
@@ -62,17 +63,17 @@ form_of name letter os =
 -- the first word: the line's bits, the condition, the size and what the operands say
 abbrev pub first_word : Form → Said → ℕ
 first_word f said =
-    (f.entry.first + condition_bits f.condition * 2 ^ 8 + size_bits_by f.entry.sizes f.size + said.first) % 2 ^ 16
+    (f.line.first + condition_bits f.condition * 2 ^ 8 + size_bits_by f.line.sizes f.size + said.first) % 2 ^ 16
 
 -- the words of a form whose operands say this
 abbrev pub words_said : Form → Said → List ℕ
 words_said f said =
-    first_word f said ∷ take f.entry.words ((f.entry.second + said.second) % 2 ^ 16 ∷ said.third ∷ []) ++ said.own
+    first_word f said ∷ take f.line.words ((f.line.second + said.second) % 2 ^ 16 ∷ said.third ∷ []) ++ said.own
 
 -- the words of a statement of the form at the address
 abbrev pub said : Form → List (Operand ℤ) → ℕ → Option (List ℕ)
 said f os at = option_map (words_said f)
-    (operands_said f.entry.operands f.size at ((at + (2 + 2 * f.entry.words)) % 2 ^ 32) os (in_first 0))
+    (operands_said (patterns_of f.line.operands) f.size at ((at + (2 + 2 * f.line.words)) % 2 ^ 32) os (in_first 0))
 
 -- the instruction that so many words are, all of them
 abbrev pub whole : ℕ → Decoded → Result Instr MeansFault
@@ -94,7 +95,7 @@ meaning name letter os at = meaning_by (form_of name letter os) os at
 
 -- how many bytes the words of a form have
 abbrev pub form_length : Form → List (Operand ℤ) → ℕ
-form_length f os = 2 * (1 + f.entry.words + operands_words f.entry.operands f.size os)
+form_length f os = 2 * (1 + f.line.words + operands_words (patterns_of f.line.operands) f.size os)
 
 abbrev pub length_of_form : Result Form MeansFault → List (Operand ℤ) → Result ℕ MeansFault
 length_of_form (Ok f) os = Ok (form_length f os)

@@ -19,7 +19,7 @@ use Rattle.mb_syntax.specs.declared.operand.FieldNumber.TheVariants as field_num
 use Rattle.mb_mnemonics.specs.declared.range.Range.{Range}
 use Rattle.mb_mnemonics.specs.declared.range.Range.TheVariants as range
 use Rattle.mb_mnemonics.specs.declared.pattern.Place.{Place}
-use Rattle.mb_mnemonics.specs.declared.pattern.Place.TheVariants.{X, Y, Upper, Middle, Lower, Both}
+use Rattle.mb_mnemonics.specs.declared.pattern.Place.TheVariants.{X, Y, Upper, Middle, Both}
 use Rattle.mb_mnemonics.specs.declared.pattern.Pattern.{Pattern}
 use Rattle.mb_mnemonics.specs.declared.pattern.Pattern.TheVariants as pattern
 use Rattle.mb_mnemonics.specs.Ranges.{number, immediate_range, branch}
@@ -266,12 +266,12 @@ pair_said (pattern.Pairs place) n m = in_both (place_bits place n) (place_bits p
 pair_said (pattern.Pair h l) n m = in_second ((place_bits h n + place_bits l m) % 2 ^ 16)
 pair_said _ n m = in_first 0
 
--- What an operand of the pattern's form says in a statement at the address, where its own words stand here; none where a
--- number is out of its range.
+-- What an operand of the pattern's form says in a statement at the address, where its own words stand here; none where
+-- a number is out of its range.
 abbrev pub operand_said : Pattern → Size → ℕ → ℕ → Operand ℤ → Option Said
 operand_said p s at here (operand.Mode m) = mode_said p s at here m
-operand_said p s at here (operand.Field m f) = option_and_then
-    (λ w. option_map (λ ws. record { first = source_bits m; second = w; third = 0; own = ws }) (extension_words s here m))
+operand_said p s at here (operand.Field m f) = option_and_then (λ w.
+    option_map (λ ws. record { first = source_bits m; second = w; third = 0; own = ws }) (extension_words s here m))
     (field_bits f)
 operand_said p s at here (operand.Control c) = Some (in_second (code_of c))
 operand_said p s at here (operand.List l) = Some (list_said p l)

@@ -1,37 +1,37 @@
 //! What stands behind the stem of a name, and the condition that it says.
 
-ghost use Rattle.std.specs.Prelude.{◌≡◌, ◌≤◌, length, map};
+ghost use Rattle.std.specs.Prelude.{◌≡◌, ◌≤◌, length};
 ghost use Rattle.mb_mnemonics.specs.Code.{most_ending};
-ghost use Rattle.mb_mnemonics.specs.Lines.{name_of, condition_by, condition_in, same_letters};
-ghost use Rattle.mb_mnemonics.specs.Lines.{ending_name, endings, entry_of};
+ghost use Rattle.mb_mnemonics.specs.Lines.{condition_by, condition_in, ending_name, endings, same_letters};
 
-use crate::line::{Ending, Line};
+use crate::line::{Ending, Line, Stem, stem};
 use mb_instr::Condition;
 
 /// A condition's name, in capital letters.
 #[derive(Clone, Copy)]
-struct NameOf {
-    name: &'static [u8],
-    condition: Condition,
+pub struct NameOf {
+    pub(crate) name: Stem,
+    pub(crate) condition: Condition,
 }
 
 macro_rules! names {
     ($($name:literal $condition:ident),*) => {
-        [$(NameOf { name: $name, condition: Condition::$condition }),*]
+        [$(NameOf { name: stem!($name), condition: Condition::$condition }),*]
     };
 }
 
-static PLAIN: [NameOf; 1] = names![b"" True];
+const PLAIN: [NameOf; 1] = names![b"" True];
 
 #[rattlefmt::skip]
-static CONDITIONS: [NameOf; 16] = names![
+const CONDITIONS: [NameOf; 16] = names![
     b"T" True, b"F" False, b"HI" High, b"LS" LowOrSame, b"CC" CarryClear, b"CS" CarrySet, b"NE" NotEqual, b"EQ" Equal,
     b"VC" OverflowClear, b"VS" OverflowSet, b"PL" Plus, b"MI" Minus, b"GE" GreaterOrEqual, b"LT" LessThan,
     b"GT" GreaterThan, b"LE" LessOrEqual
 ];
 
+/// A branch always is BRA, and one never goes on as BSR.
 #[rattlefmt::skip]
-static BRANCHES: [NameOf; 16] = names![
+const BRANCHES: [NameOf; 16] = names![
     b"RA" True, b"SR" False, b"HI" High, b"LS" LowOrSame, b"CC" CarryClear, b"CS" CarrySet, b"NE" NotEqual, b"EQ" Equal,
     b"VC" OverflowClear, b"VS" OverflowSet, b"PL" Plus, b"MI" Minus, b"GE" GreaterOrEqual, b"LT" LessThan,
     b"GT" GreaterThan, b"LE" LessOrEqual
@@ -39,7 +39,7 @@ static BRANCHES: [NameOf; 16] = names![
 
 /// The endings of a line's name, each with the condition that it says.
 fn endings(ending: Ending) -> &'static [NameOf]
-    ensures { map name_of result.now ≡ endings ending }
+    ensures { result.now ≡ endings ending }
 {
     match ending {
         Ending::Plain => &PLAIN,
@@ -57,11 +57,11 @@ fn same_letters(text: &[u8], other: &[u8]) -> bool
 
 /// The condition that a name's end says, in either case.
 fn condition_in(names: &[NameOf], text: &[u8]) -> Option<Condition>
-    ensures { result ≡ condition_in (map name_of names.now) text.now }
+    ensures { result ≡ condition_in names.now text.now }
 {
     match names {
         [] => None,
-        [name, names @ ..] => if same_letters(name.name, text) {
+        [name, names @ ..] => if same_letters(name.name.letters(), text) {
             Some(name.condition)
         } else {
             condition_in(names, text)
@@ -72,7 +72,7 @@ fn condition_in(names: &[NameOf], text: &[u8]) -> Option<Condition>
 /// The condition that a name says by a line, where it is the line's: its stem and one of its endings, in either case.
 /// A name without a condition says T.
 pub(crate) fn condition_by(line: &Line, name: &[u8]) -> Option<Condition>
-    ensures { result ≡ condition_by (entry_of line.now) name.now }
+    ensures { result ≡ condition_by line.now name.now }
 {
     let stem = line.stem.letters();
     if name.len() < stem.len() {
@@ -88,12 +88,12 @@ pub(crate) fn condition_by(line: &Line, name: &[u8]) -> Option<Condition>
 
 /// The ending with the condition of the number, among endings.
 fn ending_among(names: &'static [NameOf], number: u8) -> &'static [u8]
-    ensures { result.now ≡ ending_name (map name_of names.now) number }
+    ensures { result.now ≡ ending_name names.now number }
 {
     match names {
         [] => b"",
         [name, names @ ..] => if name.condition.bits() == number {
-            name.name
+            name.name.letters()
         } else {
             ending_among(names, number)
         },

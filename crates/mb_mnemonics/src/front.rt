@@ -1,10 +1,10 @@
 //! The instruction that a statement means, and its length.
 
-ghost use Rattle.std.specs.Prelude.{◌≡◌, ◌*◌, ◌<◌, ◌≤◌, IfOk, IfSome, IsTrue, length, map, option_map};
+ghost use Rattle.std.specs.Prelude.{◌≡◌, ◌*◌, ◌<◌, ◌≤◌, IfOk, IfSome, IsTrue, length, option_map};
 ghost use Rattle.std.specs.List.{list_all};
 ghost use Rattle.mb_instr.specs.Codes.{IsInstr};
 ghost use Rattle.mb_mnemonics.specs.Code.{is_short, said_of};
-ghost use Rattle.mb_mnemonics.specs.Lines.{entry_of, patterns_of};
+ghost use Rattle.mb_mnemonics.specs.Lines.{patterns_of};
 ghost use Rattle.mb_mnemonics.specs.Means.{form_said, said_form, form_by, form_among, is_named, form_of};
 ghost use Rattle.mb_mnemonics.specs.Means.{first_word, words_said, said, meaning, length_by};
 ghost use Rattle.mb_mnemonics.specs.Operands.{operands_words};
@@ -35,7 +35,7 @@ fn form_by(
     letter: Option<SizeLetter>,
     operands: &[Operand<i64>],
 ) -> Option<Form>
-    ensures form { option_map form_said result ≡ form_by (entry_of line.now) name.now letter operands.now }
+    ensures form { option_map form_said result ≡ form_by line.now name.now letter operands.now }
     ensures line { IfSome result (λ f. f.line.now ≡ line.now) }
 {
     let condition = condition_by(line, name)?;
@@ -59,7 +59,7 @@ fn form_among(
     operands: &[Operand<i64>],
 ) -> Option<Form>
     requires { IsTrue (list_all is_short lines.now) }
-    ensures form { option_map form_said result ≡ form_among (map entry_of lines.now) name.now letter operands.now }
+    ensures form { option_map form_said result ≡ form_among lines.now name.now letter operands.now }
     ensures short { IfSome result (λ f. IsTrue (is_short f.line.now)) }
 {
     for line in lines {
@@ -72,7 +72,7 @@ fn form_among(
 
 /// Whether one of the lines has the name.
 fn is_named(lines: &[Line], name: &[u8]) -> bool
-    ensures { result ≡ is_named (map entry_of lines.now) name.now }
+    ensures { result ≡ is_named lines.now name.now }
 {
     match lines {
         [] => false,

@@ -18,7 +18,7 @@ mod reading;
 mod sizes;
 mod table;
 
-pub use endings::ending_name;
+pub use endings::{NameOf, ending_name};
 pub use fault::MeansFault;
 pub use front::{instruction_of, length_of, operands_words};
 pub use line::{Ending, Line, Patterns, Stem};

@@ -14,6 +14,20 @@ pub struct Stem {
     pub(crate) letters: [u8; 8],
 }
 
+macro_rules! stem {
+    ($stem:literal) => {
+        stem!($stem; 0 1 2 3 4 5 6 7)
+    };
+    ($stem:literal; $($place:literal)*) => {
+        Stem {
+            length: $stem.len(),
+            letters: [$(if $place < $stem.len() { $stem[$place] } else { 0 }),*],
+        }
+    };
+}
+
+pub(crate) use stem;
+
 /// What stands behind the stem of a name.
 #[derive(Clone, Copy, Debug, PartialEq, Eq)]
 pub enum Ending {

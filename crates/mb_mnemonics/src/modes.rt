@@ -1,6 +1,6 @@
 //! Addressing modes as they are written, and their words.
 
-ghost use Rattle.std.specs.Prelude.{◌≡◌, ◌<◌, ◌≤◌, ◌+◌, ◌++◌, ◌∷◌, [], IfSome, length, option_map};
+ghost use Rattle.std.specs.Prelude.{◌≡◌, ◌<◌, ◌≤◌, ◌+◌, ◌∷◌, [], IfSome, length, option_map};
 ghost use Rattle.mb_mnemonics.specs.Modes.{base_mode, mode_of, base_lower, is_word, lower_of, in_class};
 ghost use Rattle.mb_mnemonics.specs.Modes.{displacement_words, immediate_words, outer_of, mode_words};
 ghost use Rattle.mb_mnemonics.specs.Modes.{scale_bits, index_bits, brief, displacement_bits, is_dropped};

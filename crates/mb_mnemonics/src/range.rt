@@ -1,6 +1,6 @@
 //! Numbers as operands have them, and how they are spelled.
 
-ghost use Rattle.std.specs.Prelude.{◌≡◌, ◌<◌, ◌≤◌, ◌^◌, IfSome, pos};
+ghost use Rattle.std.specs.Prelude.{◌≡◌, ◌<◌, ◌≤◌, ◌^◌, IfSome};
 ghost use Rattle.mb_alu.specs.Signs.{modulo};
 ghost use Rattle.mb_instr.specs.Sizes.{values_of};
 ghost use Rattle.mb_mnemonics.specs.Ranges.{least, greatest, values, number, immediate_range, distance, displacement};

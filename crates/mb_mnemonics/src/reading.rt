@@ -356,8 +356,8 @@ fn mode_said(pattern: Pattern, size: Size, at: u32, here: u32, mode: &Mode<i64>)
 {
     let value = value_of(mode);
     Some(match pattern {
-        Pattern::Mode(_) | Pattern::Memory(_) | Pattern::DataMode => return ea_said(size, here, source_bits(mode), mode),
-        Pattern::Destination(_) => return ea_said(size, here, destination_bits(mode), mode),
+        Pattern::Mode(_) | Pattern::Memory(_) | Pattern::DataMode => ea_said(size, here, source_bits(mode), mode)?,
+        Pattern::Destination(_) => ea_said(size, here, destination_bits(mode), mode)?,
         Pattern::Data(place) | Pattern::Address(place) | Pattern::Register(place) | Pattern::Indirect(place)
         | Pattern::PostIncrement(place) | Pattern::PreDecrement(place) => register_at(place, general(mode)),
         Pattern::Immediate => Part::in_own(immediate(size, number(Range::of_immediate(size), value)?)),

@@ -1,13 +1,13 @@
 //! The table: a line for each name and form.
 
-ghost use Rattle.std.specs.Prelude.{◌≡◌, IsTrue, map};
+ghost use Rattle.std.specs.Prelude.{◌≡◌, IsTrue};
 ghost use Rattle.std.specs.List.{list_all};
 ghost use Rattle.mb_mnemonics.specs.Code.{is_short};
-ghost use Rattle.mb_mnemonics.specs.Lines.{entry_of, lines};
+ghost use Rattle.mb_mnemonics.specs.Lines.{lines};
 
 use crate::line::Ending::{Branch, Condition, Plain};
 use crate::line::Patterns::{Nothing, One, Three, Two};
-use crate::line::{Line, Stem};
+use crate::line::{Line, Stem, stem};
 use crate::pattern::Pattern::{
     Absolute, Address, Caches, Ccr, Control, Data, DataMode, Destination, Displaced, Distance,
     FieldMode, Immediate, Indirect, IndirectPairs, Memory, Mode, Pair, Pairs, PostIncrement,
@@ -25,22 +25,13 @@ use mb_instr::OperandClass::{
 };
 use mb_instr::Size::{Byte, Long, Word};
 
-macro_rules! stem {
-    ($stem:literal; $($place:literal)*) => {
-        Stem {
-            length: $stem.len(),
-            letters: [$(if $place < $stem.len() { $stem[$place] } else { 0 }),*],
-        }
-    };
-}
-
 macro_rules! line {
     (
         $stem:literal, $ending:expr, $sizes:expr, $operands:expr, $words:literal, $first:literal, $fixed:literal
         $(, $second:literal)?
     ) => {
         Line {
-            stem: stem!($stem; 0 1 2 3 4 5 6 7),
+            stem: stem!($stem),
             ending: $ending,
             sizes: $sizes,
             operands: $operands,
@@ -239,7 +230,7 @@ const LINES: [Line; 180] = [
 /// The table, in the alphabetical order of the names.
 #[tactic(auto, unfolding(crate::specs::Lines::lines))]
 pub fn lines() -> &'static [Line]
-    ensures table { map entry_of result.now ≡ lines }
+    ensures table { result.now ≡ lines }
     ensures short { IsTrue (list_all is_short result.now) }
 {
     &LINES

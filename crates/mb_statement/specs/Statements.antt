@@ -21,6 +21,7 @@ use Rattle.mb_syntax.specs.declared.operand.FieldNumber.{FieldNumber}
 use Rattle.mb_syntax.specs.declared.operand.FieldNumber.TheVariants as field_part
 use Rattle.mb_syntax.specs.declared.operand.Operand.{Operand}
 use Rattle.mb_syntax.specs.declared.operand.Operand.TheVariants as operand
+use Rattle.mb_mnemonics.specs.declared.line.Line.{Line}
 use Rattle.mb_mnemonics.specs.declared.pattern.Place.{Place}
 use Rattle.mb_mnemonics.specs.declared.pattern.Place.TheVariants.{X, Y, Upper, Middle, Lower, Both}
 use Rattle.mb_mnemonics.specs.declared.pattern.Pattern.{Pattern}
@@ -31,7 +32,7 @@ use Rattle.mb_mnemonics.specs.declared.sizes.SizeField.{SizeField}
 use Rattle.mb_mnemonics.specs.declared.sizes.SizeField.TheVariants.{Usual, Bit8, Bit6, OfMove, OfCas, OfBounds, OfChk}
 use Rattle.mb_mnemonics.specs.declared.sizes.Sizes.{Sizes}
 use Rattle.mb_mnemonics.specs.declared.sizes.Sizes.TheVariants.{Unsized, Only, Written, Stated, Short, WordLong, Any}
-use Rattle.mb_mnemonics.specs.Lines.{Entry, ending_name, endings}
+use Rattle.mb_mnemonics.specs.Lines.{ending_name, endings, patterns_of, stem_of}
 use Rattle.mb_mnemonics.specs.Operands.{operand_words, operands_words}
 use Rattle.mb_statement.specs.Modes.{long_in, mode_in, number_in, target_of, word_in}
 
@@ -202,25 +203,25 @@ pub record Reading : Type 0 where
   pub statement : Statement
   pub words : ℕ
 
-abbrev pub statement_in : Entry → Size → ℕ → List ℕ → Statement
+abbrev pub statement_in : Line → Size → ℕ → List ℕ → Statement
 statement_in l s at ws = record {
-  name = l.stem ++ ending_name (endings l.ending) (word_in 0 ws / 2 ^ 8 % 16);
+  name = stem_of l.stem ++ ending_name (endings l.ending) (word_in 0 ws / 2 ^ 8 % 16);
   size = letter_by l.sizes s;
-  operands = operands_in l.operands s at ((at + 2 * (1 + l.words)) % 2 ^ 32) (front_of ws) (drop (1 + l.words) ws);
+  operands = operands_in (patterns_of l.operands) s at ((at + 2 * (1 + l.words)) % 2 ^ 32) (front_of ws) (drop (1 + l.words) ws);
 }
 
 -- a line's reading of words, at the size
-abbrev pub sized_reading : Entry → Size → ℕ → List ℕ → Reading
+abbrev pub sized_reading : Line → Size → ℕ → List ℕ → Reading
 sized_reading l s at ws = let statement = statement_in l s at ws in record {
   statement = statement;
-  words = 1 + l.words + operands_words l.operands s statement.operands;
+  words = 1 + l.words + operands_words (patterns_of l.operands) s statement.operands;
 }
 
 -- the first word has the bits of the line that belong to no field
-abbrev pub has_bits : Entry → ℕ → Bool
+abbrev pub has_bits : Line → ℕ → Bool
 has_bits l first = bit_and first l.fixed == l.first
 
 -- A line's reading of the words at an address, where the first word says a size that the line has. Whether the
 -- statement says just these words is left open.
-unfoldable pub reading_by : Entry → ℕ → List ℕ → Option Reading
+unfoldable pub reading_by : Line → ℕ → List ℕ → Option Reading
 reading_by l at ws = option_map (λ s. sized_reading l s at ws) (size_by l.sizes (word_in 0 ws))

@@ -3,7 +3,7 @@
 ghost use Rattle.std.specs.Prelude.{◌≡◌, ◌+◌, ◌*◌, ◌/◌, ◌%◌, ◌^◌, ◌≤◌, ◌++◌, IfSome, IsTrue, drop, length, option_map};
 ghost use Rattle.arrayvec.specs.ArrayVec.{array_vec_len};
 ghost use Rattle.mb_mnemonics.specs.Code.{is_short};
-ghost use Rattle.mb_mnemonics.specs.Lines.{ending_name, endings, entry_of, patterns_of, stem_of};
+ghost use Rattle.mb_mnemonics.specs.Lines.{ending_name, endings, patterns_of, stem_of};
 ghost use Rattle.mb_mnemonics.specs.Operands.{operand_words};
 ghost use Rattle.mb_statement.specs.Statements as statements;
 ghost use Rattle.mb_statement.specs.Answers.{front_said, operands_said, reading_said, statement_said};
@@ -148,7 +148,7 @@ fn operands_in(patterns: Patterns, common: Common, here: u32, own: &[u16]) -> Op
 
 fn statement_in(line: &Line, size: Size, at: u32, words: &[u16]) -> Statement
     requires { IsTrue (is_short line.now) }
-    ensures statement { statement_said result ≡ statements.statement_in (entry_of line.now) size at words.now }
+    ensures statement { statement_said result ≡ statements.statement_in line.now size at words.now }
     ensures short { length result.name.items ≤ 8 }
 {
     let front = front_of(words);
@@ -163,7 +163,7 @@ fn statement_in(line: &Line, size: Size, at: u32, words: &[u16]) -> Statement
 
 fn sized_reading(line: &Line, size: Size, at: u32, words: &[u16]) -> Reading
     requires { IsTrue (is_short line.now) }
-    ensures reading { reading_said result ≡ statements.sized_reading (entry_of line.now) size at words.now }
+    ensures reading { reading_said result ≡ statements.sized_reading line.now size at words.now }
     ensures short { length result.statement.name.items ≤ 8 }
 {
     let statement = statement_in(line, size, at, words);
@@ -176,7 +176,7 @@ fn sized_reading(line: &Line, size: Size, at: u32, words: &[u16]) -> Reading
 
 /// Whether the first word has the bits of the line that belong to no field.
 pub fn has_bits(line: &Line, first: u16) -> bool
-    ensures { result ≡ statements.has_bits (entry_of line.now) first }
+    ensures { result ≡ statements.has_bits line.now first }
 {
     first & line.fixed == line.first
 }
@@ -186,7 +186,7 @@ pub fn has_bits(line: &Line, first: u16) -> bool
 #[tactic(auto, unfolding(crate::specs::Statements::reading_by))]
 pub fn reading_by(line: &Line, at: u32, words: &[u16]) -> Option<Reading>
     requires { IsTrue (is_short line.now) }
-    ensures reading { option_map reading_said result ≡ statements.reading_by (entry_of line.now) at words.now }
+    ensures reading { option_map reading_said result ≡ statements.reading_by line.now at words.now }
     ensures short { IfSome result (λ reading. length reading.statement.name.items ≤ 8) }
 {
     let size = size_by(line.sizes, word_in(0, words))?;
