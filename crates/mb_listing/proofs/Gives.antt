@@ -1,58 +1,75 @@
 -- Each listed text gives its words.
-use Rattle.std.proofs.Common.{◌≡◌, ℕ, suc, zero, ◌+◌, ◌*◌, ◌<◌, ◌≤◌, ◌^◌, List, [], ◌∷◌, length, take, drop, refl, arith, length-drop}
+use Rattle.std.proofs.Common.{◌≡◌, ℕ, suc, zero, ◌+◌, ◌*◌, ◌%◌, ◌<◌, ◌≤◌, ◌^◌, List, [], ◌∷◌, ◌++◌, length, take, drop, refl, sym, subst, arith, length-drop}
 use Rattle.std.proofs.lemmas.List.{length-take}
-use Rattle.std.specs.Prelude.{Bool, true, false, if◌then◌else◌, slice_index, All, Option, Some, None, option_and_then, unwrap_or, ⊤}
+use Rattle.std.specs.Prelude.{Bool, true, false, ◌==◌, if◌then◌else◌, slice_index, All, Option, Some, None, option_and_then, unwrap_or, ⊤}
+use Rattle.std.specs.List.{list_all}
 use Rattle.std.specs.Option.{option_or}
+use Rattle.std.proofs.Math.Seq.{take-append_seam}
+use Rattle.std.proofs.lemmas.Bool.{eqb-true}
 use Rattle.std.proofs.lemmas.List.Elements.{All-cons, All-drop, All-nil, All-head, All-tail, All-take}
+use Rattle.mb_instr.specs.declared.instruction.Instr.{Instr}
+use Rattle.mb_instr.specs.Codes.{AreWords, Codes}
+use Rattle.mb_decode.specs.declared.front.Decoded.{Decoded}
+use Rattle.mb_decode.specs.declared.front.Decoded.TheVariants.{Whole}
+use Rattle.mb_decode.specs.Decodes.{Decodes, decode_of}
+use Rattle.mb_decode.proofs.Table.{decoded}
 use Rattle.mb_mnemonics.specs.declared.line.Line.{Line as Mnemonic}
 use Rattle.mb_mnemonics.specs.Lines.{lines}
-use Rattle.mb_statement.specs.Statements.{Reading, Statement, has_bits, reading_by}
+use Rattle.mb_mnemonics.specs.Means.{words_by}
+use Rattle.mb_statement.specs.Statements.{Statement, has_bits, statement_by}
 use Rattle.mb_statement.specs.Texts.{statement_text}
-use Rattle.mb_listing.specs.Listing.{Line, data_line, line_among, line_at, line_by, says}
-use Rattle.mb_listing.specs.Listing.{line_read, lines_from, lines_of, words_at, words_in}
+use Rattle.mb_statement.specs.Written.{has_text, is_written}
+use Rattle.mb_statement.proofs.Lexemes.{both}
+use Rattle.mb_statement.proofs.LinesWritten.{all_named, is_named, statement_written}
+use Rattle.mb_listing.specs.Listing.{Line, are, data_line, instruction_line, line_among, line_at, line_by, line_said, says}
+use Rattle.mb_listing.specs.Listing.{lines_from, lines_of, words_at, words_in}
 use Rattle.mb_listing.specs.Laws.{EachLineGives, GivesItsWords}
 use Rattle.mb_listing.proofs.DataLines.{data_gives_its_word}
-use Rattle.mb_listing.proofs.Instructions.{AreWords, says_gives}
+use Rattle.mb_listing.proofs.Instructions.{says_gives}
 
 -- ---- a line is the first words and a statement that says them, or the first word as a number
 
-module _ (P : Line → Type 0) (at : ℕ) (words : List ℕ)
-    (listed : (n : ℕ) (s : Statement) → says at (take n words) s ≡ true
-    → P (record { at = at; words = take n words; text = statement_text s }))
-    (number : P (data_line at (slice_index words 0))) where
+module _ (P : Line → Type 0) (at : ℕ) where
   -- it holds of the line, where there is one
   abbrev Made : Option Line → Type 0
   Made None = ⊤
   Made (Some line) = P line
 
-  by_test : (n : ℕ) (s : Statement) (test : Bool) → says at (take n words) s ≡ test
-      → Made (if test then Some (record { at = at; words = take n words; text = statement_text s }) else None)
-  by_test n s true e = listed n s e
-  by_test n s false e = tt
+  module _ (words : List ℕ) (small : AreWords words)
+      (listed : (s : Statement) → is_written s ≡ true → says at words s ≡ true → P (record { at = at; words = words; text = statement_text s })) where
+    by_test : (l : Mnemonic) (s : Statement) (test : Bool) → is_named l ≡ true → statement_by l at words ≡ Some s → says at words s ≡ test
+        → Made (if test then Some (record { at = at; words = words; text = statement_text s }) else None)
+    by_test l s true named made e =
+        let parts = both (list_all has_text s.operands) (are words (words_by s.name s.size s.operands at)) e in
+        listed s (statement_written l at words s named small made parts.0) e
+    by_test l s false named made e = tt
 
-  line_by_so : (read : Option Reading) → Made (option_and_then (λ r. line_read at words r) read)
-  line_by_so None = tt
-  line_by_so (Some r) = by_test r.words r.statement (says at (take r.words words) r.statement) refl
+    line_by_so : (l : Mnemonic) (made : Option Statement) → is_named l ≡ true → statement_by l at words ≡ made
+        → Made (option_and_then (line_said at words) made)
+    line_by_so l None named e = tt
+    line_by_so l (Some s) named e = by_test l s (says at words s) named e refl
 
-  read_so : (fit : Bool) (read : Option Reading) → Made (if fit then option_and_then (λ r. line_read at words r) read else None)
-  read_so true read = line_by_so read
-  read_so false read = tt
+    fit_so : (l : Mnemonic) (fit : Bool) → is_named l ≡ true
+        → Made (if fit then option_and_then (line_said at words) (statement_by l at words) else None)
+    fit_so l true named = line_by_so l (statement_by l at words) named refl
+    fit_so l false named = tt
 
-  either_so : (a b : Option Line) → Made a → Made b → Made (option_or a b)
-  either_so None b h k = k
-  either_so (Some line) b h k = h
+    either_so : (a b : Option Line) → Made a → Made b → Made (option_or a b)
+    either_so None b h k = k
+    either_so (Some line) b h k = h
 
-  line_among_so : (ls : List Mnemonic) → Made (line_among ls at words)
-  line_among_so [] = tt
-  line_among_so (l ∷ ls) =
-      either_so (line_by l at words) (line_among ls at words) (read_so (has_bits l (slice_index words 0)) (reading_by l at words)) (line_among_so ls)
+    line_among_so : (ls : List Mnemonic) → list_all is_named ls ≡ true → Made (line_among ls at words)
+    line_among_so [] named = tt
+    line_among_so (l ∷ ls) named =
+        let parts = both (is_named l) (list_all is_named ls) named in
+        either_so (line_by l at words) (line_among ls at words) (fit_so l (has_bits l (slice_index words 0)) parts.0) (line_among_so ls parts.1)
 
-  line_so : (line : Option Line) → Made line → P (unwrap_or line (data_line at (slice_index words 0)))
-  line_so None h = number
-  line_so (Some line) h = h
+    pub listed_so : Made (line_among lines at words)
+    listed_so = line_among_so lines all_named
 
-  line_at_so : P (line_at at words)
-  line_at_so = line_so (line_among lines at words) (line_among_so lines)
+  line_so : (line : Option Line) (other : Line) → Made line → P other → P (unwrap_or line other)
+  line_so None other h k = k
+  line_so (Some line) other h k = h
 
 module _ (P : Line → Type 0) (ram : List ℕ)
     (so : (at first : ℕ) (others : List ℕ) → words_at ram at ≡ first ∷ others → P (line_at at (first ∷ others))) where
@@ -92,6 +109,25 @@ words_are_in (suc most) (high ∷ low ∷ bytes) b =
 
 -- ---- each line gives its words
 
+by_even : (at : ℕ) (words : List ℕ) (i : Instr) (even : Bool) → (at % 2 == 0) ≡ even → Codes i words → AreWords words → at + 2 * length words ≤ 2 ^ 32
+    → Made GivesItsWords at (if even then line_among lines at words else None)
+by_even at words i true e codes small inside =
+    listed_so GivesItsWords at words small
+    (λ s written yes. says_gives at words s i (eqb-true (at % 2) 0 e) written yes codes small inside)
+by_even at words i false e codes small inside = tt
+
+front_is : (n : ℕ) (words front rest : List ℕ) → words ≡ front ++ rest → n ≡ length front → take n words ≡ front
+front_is n words front rest e count = rw (count, e) (take-append_seam front rest)
+
+instruction_gives : (at : ℕ) (words : List ℕ) (d : Decoded) → decode_of words ≡ d → AreWords words → at + 2 * length words ≤ 2 ^ 32
+    → Made GivesItsWords at (instruction_line at words d)
+instruction_gives at words (Whole i n) e small inside =
+    let b : Decodes words (Whole i n) = decoded words (Whole i n) (sym e) small in
+    let front = front_is n words b.0 b.1 b.3 b.4 in
+    let fewer = length-take n words in
+    by_even at (take n words) i (at % 2 == 0) refl (subst (λ w. Codes i w) (sym front) b.2) (All-take (λ w. w < 2 ^ 16) n words small) (omega arith)
+instruction_gives at words _ e small inside = tt
+
 line_gives : (ram : List ℕ) (at first : ℕ) (others : List ℕ) → length ram ≤ 2 ^ 32 → All (λ byte. byte < 256) ram
     → words_at ram at ≡ first ∷ others → GivesItsWords (line_at at (first ∷ others))
 line_gives ram at first others size bytes e =
@@ -99,9 +135,8 @@ line_gives ram at first others size bytes e =
     let read : AreIn words (drop at ram) = rw e at (words_are_in 11 (drop at ram) (All-drop (λ byte. byte < 256) at ram bytes)) in
     let fits = read.inside in
     let left = length-drop at ram in
-    line_at_so GivesItsWords at words
-    (λ n s yes. let fewer = length-take n words in
-    says_gives at (take n words) s yes (All-take (λ w. w < 2 ^ 16) n words read.small) (omega arith))
+    line_so GivesItsWords at (instruction_line at words (decode_of words)) (data_line at first)
+    (instruction_gives at words (decode_of words) refl read.small (omega arith))
     (data_gives_its_word at first (omega arith) (All-head (λ w. w < 2 ^ 16) first others read.small))
 
 pub each_line_gives : EachLineGives

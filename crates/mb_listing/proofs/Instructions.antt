@@ -1,15 +1,16 @@
 -- The statement of an instruction at an address lays the words that spell it.
 use Rattle.std.proofs.Common.{◌≡◌, ℕ, ◌+◌, ◌*◌, ◌/◌, ◌%◌, ◌^◌, ◌≤◌, ◌<◌, Bool, true, false, min, List, [], ◌∷◌, length, refl, sym, ap, ◌∙◌, arith}
-use Rattle.std.specs.Prelude.{ℤ, ◌==◌, ◌&&◌, ◌||◌, nat_lt, Option, Some, None, Result, Ok, Err, All}
-use Rattle.std.specs.List.{flat_map}
-use Rattle.std.proofs.lemmas.Bool.{eqb-true, le-ltb}
+use Rattle.std.specs.Prelude.{ℤ, ◌==◌, ◌||◌, if◌then◌else◌, nat_lt, ok_or, option_and_then, Option, Some, None, Result, Ok, Err}
+use Rattle.std.specs.List.{flat_map, list_all}
+use Rattle.std.proofs.lemmas.Bool.{eq-eqb, le-ltb}
 use Rattle.std.proofs.lemmas.List.Elements.{All-head, All-tail}
 use Rattle.std.proofs.lemmas.Slice.Eq.{bytes_eq-Decides}
 use Rattle.std.specs.Int.{bytes_high_first}
 use Rattle.mb_lines.specs.Results.{◌>>=◌}
 use Rattle.mb_instr.specs.declared.instruction.Instr.{Instr}
-use Rattle.mb_instr.specs.Codes.{words_of}
+use Rattle.mb_instr.specs.Codes.{AreWords, Codes, words_of}
 use Rattle.mb_instr.specs.Rows.{row}
+use Rattle.mb_decode.proofs.Table.{read_back}
 use Rattle.mb_syntax.specs.declared.operand.Operand.{Operand}
 use Rattle.mb_syntax.specs.declared.statement.SizeLetter.{SizeLetter}
 use Rattle.mb_syntax.specs.Lines.{statement_in}
@@ -17,7 +18,10 @@ use Rattle.mb_syntax.specs.Spans.{bytes_at}
 use Rattle.mb_syntax.specs.Statements.{Operation}
 use Rattle.mb_syntax.specs.Tables.{found_in}
 use Rattle.mb_mnemonics.specs.declared.fault.MeansFault.{MeansFault}
-use Rattle.mb_mnemonics.specs.Means.{Form, form_length, form_of, length_by, length_of_form, meaning, meaning_by}
+use Rattle.mb_mnemonics.specs.declared.fault.MeansFault.TheVariants as fault
+use Rattle.mb_mnemonics.specs.Lines.{lines}
+use Rattle.mb_mnemonics.specs.Means.{Form, form_among, form_length, form_of, is_named, length_by, length_of_form, meaning, meaning_by, said, told, whole as all_of}
+use Rattle.mb_mnemonics.specs.Means.{words_by}
 use Rattle.mb_mnemonics.proofs.Length.{length_of_words}
 use Rattle.mb_asm.specs.Directives.{directives}
 use Rattle.mb_asm.specs.Kinds.{meant}
@@ -29,8 +33,9 @@ use Rattle.mb_asm.specs.Layouts.{earlier}
 use Rattle.mb_asm.specs.Judged.{is_misplaced, judged_line, reaches_past, scope_of}
 use Rattle.mb_statement.specs.Statements.{Statement}
 use Rattle.mb_statement.specs.Texts.{statement_text}
-use Rattle.mb_statement.specs.Written.{is_written}
-use Rattle.mb_listing.specs.Listing.{bytes_of, is_spelled, says}
+use Rattle.mb_statement.specs.Written.{has_text, is_written}
+use Rattle.mb_statement.proofs.Lexemes.{both}
+use Rattle.mb_listing.specs.Listing.{are, bytes_of, says}
 use Rattle.mb_listing.specs.Laws.{GivesItsWords}
 use Rattle.mb_listing.proofs.NoDirectives.{no_directive}
 use Rattle.mb_listing.proofs.Numbers.{Flaw, no_flaw, values_again}
@@ -38,9 +43,6 @@ use Rattle.mb_listing.proofs.Sources.{line_of, named, operation_of}
 use Rattle.mb_listing.proofs.Placed.{behind_by, bytes_by, directive_by, laid_by, placed, statement_judged, statement_placed}
 
 -- ---- bytes of words
-
-abbrev pub AreWords : List ℕ → Type 0
-AreWords words = All (λ w. w < 2 ^ 16) words
 
 bytes_same : (words : List ℕ) → AreWords words → flat_map (bytes_high_first 2) words ≡ bytes_of words
 bytes_same [] h = refl
@@ -144,13 +146,17 @@ module _ (at : ℕ) (word : ℕ) (words : List ℕ) (s : Statement) (i : Instr) 
 
 -- ---- the test of a line
 
-both_true : (a b : Bool) → (a && b) ≡ true → (a ≡ true) × (b ≡ true)
-both_true true b e = (refl, e)
-both_true false b e = absurd cc
+are_same : (words : List ℕ) (o : Option (List ℕ)) → are words o ≡ true → o ≡ Some words
+are_same words None h = absurd cc
+are_same words (Some said) h = ap (λ (x : List ℕ). Some x) ((bytes_eq-Decides said words).0 h)
 
-spelled_by : (words : List ℕ) (r : Result Instr MeansFault) → is_spelled words r ≡ true → (i : Instr) × ((r ≡ Ok i) × (words_of (row i) ≡ words))
-spelled_by words (Ok i) e = (i, (refl, (bytes_eq-Decides (words_of (row i)) words).0 e))
-spelled_by words (Err f) e = absurd cc
+-- a statement with the words of an instruction means it
+means_by : (o : Option Form) (x : MeansFault) (os : List (Operand ℤ)) (at : ℕ) (words : List ℕ) (i : Instr)
+    → option_and_then (λ f. said f os at) o ≡ Some words → Codes i words → meaning_by (ok_or o x) os at ≡ Ok i
+means_by None x os at words i h codes = absurd cc
+means_by (Some f) x os at words i h codes =
+    let all : (length words == length words) ≡ true = eq-eqb _ _ refl in
+    ap told h ∙ ap (all_of (length words)) (read_back i words codes) ∙ rw all refl
 
 said_words : (at : ℕ) (words : List ℕ) (s : Statement) (i : Instr) → at % 2 ≡ 0 → is_written s ≡ true → meaning s.name s.size s.operands at ≡ Ok i
     → words_of (row i) ≡ words → AreWords words → at + 2 * length words ≤ 4294967296
@@ -158,11 +164,11 @@ said_words : (at : ℕ) (words : List ℕ) (s : Statement) (i : Instr) → at % 
 said_words at [] s i even written means spelt small inside = absurd cc
 said_words at (word ∷ words) s i even written means spelt small inside = lays_words at word words s i even written means spelt small inside
 
--- A statement that says words at an address gives them there.
-pub says_gives : (at : ℕ) (words : List ℕ) (s : Statement) → says at words s ≡ true → AreWords words → at + 2 * length words ≤ 4294967296
-    → GivesItsWords (record { at = at; words = words; text = statement_text s })
-says_gives at words s h small inside =
-    let parts = both_true ((at % 2 == 0) && is_written s) (is_spelled words (meaning s.name s.size s.operands at)) h in
-    let front = both_true (at % 2 == 0) (is_written s) parts.0 in
-    let spelt = spelled_by words (meaning s.name s.size s.operands at) parts.1 in
-    said_words at words s spelt.0 (eqb-true (at % 2) 0 front.0) front.1 spelt.1.0 spelt.1.1 small inside
+-- A statement that says the words of an instruction at an even address gives them there.
+pub says_gives : (at : ℕ) (words : List ℕ) (s : Statement) (i : Instr) → at % 2 ≡ 0 → is_written s ≡ true → says at words s ≡ true → Codes i words
+    → AreWords words → at + 2 * length words ≤ 4294967296 → GivesItsWords (record { at = at; words = words; text = statement_text s })
+says_gives at words s i even written h codes small inside =
+    let o : Option Form = form_among lines s.name s.size s.operands in
+    let so = are_same words (words_by s.name s.size s.operands at) (both (list_all has_text s.operands) _ h).1 in
+    let x : MeansFault = if is_named lines s.name then fault.Operand else fault.Name in
+    said_words at words s i even written (means_by o x s.operands at words i so codes) (sym codes.words) small inside

@@ -37,16 +37,18 @@ module _ (a b : List ℕ) (alike : str_to_ascii_lowercase a ≡ str_to_ascii_low
   same_ending : (ns : List NameOf) (n : ℕ) → condition_in ns (drop n a) ≡ condition_in ns (drop n b)
   same_ending [] n = refl
   same_ending (name ∷ ns) n =
-      let first : same_letters (stem_of name.name) (drop n a) ≡ same_letters (stem_of name.name) (drop n b) = ap (bytes_eq (str_to_ascii_lowercase (stem_of name.name))) (ends_alike n) in
+      let text = stem_of name.name in
+      let first : same_letters text (drop n a) ≡ same_letters text (drop n b) = ap (bytes_eq (str_to_ascii_lowercase text)) (ends_alike n) in
       ap (λ (test : Bool). if test then Some name.condition else condition_in ns (drop n a)) first
-      ∙ ap (λ (rest : Option Condition). if same_letters (stem_of name.name) (drop n b) then Some name.condition else rest) (same_ending ns n)
+      ∙ ap (λ (rest : Option Condition). if same_letters text (drop n b) then Some name.condition else rest) (same_ending ns n)
 
   same_condition : (l : Line) → condition_by l a ≡ condition_by l b
   same_condition l =
-      let n = length (stem_of l.stem) in
-      ap (λ (m : ℕ). if nat_lt m n then None else (if same_letters (stem_of l.stem) (take n a) then condition_in (endings l.ending) (drop n a) else None)) as_long
-      ∙ ap (λ (test : Bool). if nat_lt (length b) n then None else (if test then condition_in (endings l.ending) (drop n a) else None)) (same_front (stem_of l.stem) n)
-      ∙ ap (λ (c : Option Condition). if nat_lt (length b) n then None else (if same_letters (stem_of l.stem) (take n b) then c else None))
+      let stem = stem_of l.stem in
+      let n = length stem in
+      ap (λ (m : ℕ). if nat_lt m n then None else (if same_letters stem (take n a) then condition_in (endings l.ending) (drop n a) else None)) as_long
+      ∙ ap (λ (test : Bool). if nat_lt (length b) n then None else (if test then condition_in (endings l.ending) (drop n a) else None)) (same_front stem n)
+      ∙ ap (λ (c : Option Condition). if nat_lt (length b) n then None else (if same_letters stem (take n b) then c else None))
       (same_ending (endings l.ending) n)
 
   same_named : (ls : List Line) → is_named ls a ≡ is_named ls b

@@ -1,22 +1,21 @@
 -- The listing: the lines of a memory from an address on.
 use Rattle.std.specs.Prelude.{ℕ, zero, suc, ◌+◌, ◌*◌, ◌/◌, ◌%◌, ◌==◌, ◌&&◌, ◌++◌, Bool, false, if◌then◌else◌}
-use Rattle.std.specs.Prelude.{List, [], ◌∷◌, length, take, drop, slice_index, Result, Ok, Err, codes}
+use Rattle.std.specs.Prelude.{List, [], ◌∷◌, length, take, drop, slice_index, codes}
 use Rattle.std.specs.Prelude.{Option, Some, None, option_and_then, unwrap_or}
 use Rattle.std.specs.Option.{option_or}
-use Rattle.std.specs.List.{flat_map}
+use Rattle.std.specs.List.{flat_map, list_all}
 use Rattle.std.specs.Str.{bytes_eq}
-use Rattle.mb_instr.specs.declared.instruction.Instr.{Instr}
-use Rattle.mb_instr.specs.Codes.{words_of}
-use Rattle.mb_instr.specs.Rows.{row}
-use Rattle.mb_mnemonics.specs.declared.fault.MeansFault.{MeansFault}
+use Rattle.mb_decode.specs.declared.front.Decoded.{Decoded}
+use Rattle.mb_decode.specs.declared.front.Decoded.TheVariants.{Whole}
+use Rattle.mb_decode.specs.Decodes.{decode_of}
 use Rattle.mb_mnemonics.specs.declared.line.Line.{Line as Mnemonic}
 use Rattle.mb_mnemonics.specs.Lines.{lines}
-use Rattle.mb_mnemonics.specs.Means.{meaning}
+use Rattle.mb_mnemonics.specs.Means.{words_by}
 use Rattle.mb_report.specs.Digits.{digits, hex8}
 use Rattle.mb_statement.specs.Numbers.{number}
-use Rattle.mb_statement.specs.Statements.{Reading, Statement, has_bits, reading_by}
+use Rattle.mb_statement.specs.Statements.{Statement, has_bits, statement_by}
 use Rattle.mb_statement.specs.Texts.{statement_text}
-use Rattle.mb_statement.specs.Written.{is_written}
+use Rattle.mb_statement.specs.Written.{has_text}
 
 -- ---- whether a statement says the words
 
@@ -24,14 +23,13 @@ use Rattle.mb_statement.specs.Written.{is_written}
 abbrev pub bytes_of : List ℕ → List ℕ
 bytes_of words = flat_map (λ word. word / 256 ∷ word % 256 ∷ []) words
 
--- these words spell the instruction that is meant
-abbrev pub is_spelled : List ℕ → Result Instr MeansFault → Bool
-is_spelled words (Ok i) = bytes_eq (words_of (row i)) words
-is_spelled words (Err fault) = false
+abbrev pub are : List ℕ → Option (List ℕ) → Bool
+are words None = false
+are words (Some said) = bytes_eq said words
 
--- A statement at an even address is what its text is read as, and means the instruction that these words spell.
+-- A statement that a line makes of words has a text, and these are the words that the table has for it at the address.
 abbrev pub says : ℕ → List ℕ → Statement → Bool
-says at words s = (at % 2 == 0) && is_written s && is_spelled words (meaning s.name s.size s.operands at)
+says at words s = list_all has_text s.operands && are words (words_by s.name s.size s.operands at)
 
 -- ---- lines
 
@@ -45,26 +43,29 @@ pub record Line : Type 0 where
 abbrev pub data_line : ℕ → ℕ → Line
 data_line at word = record { at = at; words = word ∷ []; text = codes "DC.W " ++ number word }
 
--- so many of the words, and the text of a statement, where it says just them
-abbrev pub line_read : ℕ → List ℕ → Reading → Option Line
-line_read at words r =
-    if says at (take r.words words) r.statement
-    then Some (record { at = at; words = take r.words words; text = statement_text r.statement }) else None
+-- the words and the text of a statement, where it says just them
+abbrev pub line_said : ℕ → List ℕ → Statement → Option Line
+line_said at words s =
+    if says at words s then Some (record { at = at; words = words; text = statement_text s }) else None
 
--- the line that a line of the table of mnemonics makes of the words at an address
+-- the line that a line of the table of mnemonics makes of the words of an instruction at an address
 abbrev pub line_by : Mnemonic → ℕ → List ℕ → Option Line
 line_by l at words =
-    if has_bits l (slice_index words 0)
-    then option_and_then (λ r. line_read at words r) (reading_by l at words) else None
+    if has_bits l (slice_index words 0) then option_and_then (line_said at words) (statement_by l at words) else None
 
 abbrev pub line_among : List Mnemonic → ℕ → List ℕ → Option Line
 line_among [] at words = None
 line_among (l ∷ ls) at words = option_or (line_by l at words) (line_among ls at words)
 
+-- the line of the instruction that words begin with, at an even address
+abbrev pub instruction_line : ℕ → List ℕ → Decoded → Option Line
+instruction_line at words (Whole i n) = if at % 2 == 0 then line_among lines at (take n words) else None
+instruction_line at words _ = None
+
 -- The line at an address by the words that begin there, as far as memory has them; there is one at least: that of the
--- first line of the table whose statement says just its words, else the first word alone.
+-- first line of the table whose statement says just the words of the instruction there, else the first word alone.
 abbrev pub line_at : ℕ → List ℕ → Line
-line_at at words = unwrap_or (line_among lines at words) (data_line at (slice_index words 0))
+line_at at words = unwrap_or (instruction_line at words (decode_of words)) (data_line at (slice_index words 0))
 
 -- the address, the words in digits, and the text
 abbrev pub line_text : Line → List ℕ

@@ -5,23 +5,25 @@ ghost use Rattle.std.specs.Prelude.{option_and_then, option_map, slice_index, ta
 ghost use Rattle.std.specs.List.{list_all};
 ghost use Rattle.arrayvec.specs.ArrayVec.{array_vec_len};
 ghost use Rattle.mb_mnemonics.specs.Code.{is_short};
-ghost use Rattle.mb_mnemonics.specs.Means.{meaning};
+ghost use Rattle.mb_decode.specs.Decodes.{decode_of};
+ghost use Rattle.mb_mnemonics.specs.Means.{words_by};
 ghost use Rattle.mb_statement.specs.Numbers.{number};
 ghost use Rattle.mb_statement.specs.Texts.{statement_text};
 ghost use Rattle.mb_statement.specs.Answers.{statement_said};
-ghost use Rattle.mb_statement.specs.Statements.{reading_by};
+ghost use Rattle.mb_statement.specs.Statements.{statement_by};
 ghost use Rattle.mb_listing.specs.Answers.{line_said};
-ghost use Rattle.mb_listing.specs.Listing.{bytes_of, data_line, is_spelled, line_among, line_at};
-ghost use Rattle.mb_listing.specs.Listing.{line_read, line_text, says};
+ghost use Rattle.mb_listing.specs.Listing as listing;
+ghost use Rattle.mb_listing.specs.Listing.{are, bytes_of, data_line, instruction_line, line_among, line_at, line_text};
+ghost use Rattle.mb_listing.specs.Listing.{says};
 ghost use Rattle.mb_instr.specs.declared.counts.TheConstants.{MOST_WORDS};
 
 use arrayvec::ArrayVec;
-use mb_encode::encode;
-use mb_mnemonics::{Line as Mnemonic, instruction_of, lines};
+use mb_decode::{Decoded, decode};
+use mb_mnemonics::{Line as Mnemonic, lines, words_of};
 use mb_report::{hex8, push_digits};
 use mb_statement::{
-    LineText, Reading, Statement, has_bits, is_written, push_bytes, push_number, push_statement,
-    reading_by,
+    LineText, Statement, has_bits, have_texts, push_bytes, push_number, push_statement,
+    statement_by,
 };
 
 /// The bytes of as many words as the longest instruction has.
@@ -50,11 +52,12 @@ pub(crate) struct Line<'w> {
 }
 
 /// The first words.
-fn front_of(words: &[u16], count: usize) -> &[u16]
+fn front_of(words: &[u16], count: u8) -> &[u16]
     ensures front { result.now ≡ take count words.now }
     ensures few { length result.now ≤ length words.now }
+    ensures some { 0 < count → 0 < length words.now → 0 < length result.now }
 {
-    &words[..words.len().min(count)]
+    &words[..words.len().min(usize::from(count))]
 }
 
 fn statement_text(statement: &Statement) -> LineText
@@ -91,47 +94,37 @@ fn data_line(at: u32, words: &[u16]) -> Line<'_>
     }
 }
 
-/// Whether a statement means the instruction that the words spell.
-fn is_meant(at: u32, words: &[u16], statement: &Statement) -> bool
-    ensures { result ≡ is_spelled words.now (meaning (statement_said statement.now).name statement.now.size
+/// Whether these are the words that the table has for a statement at the address.
+fn are_said(at: u32, words: &[u16], statement: &Statement) -> bool
+    ensures { result ≡ are words.now (words_by (statement_said statement.now).name statement.now.size
         (statement_said statement.now).operands at) }
 {
     let operands = statement.operands.as_slice();
-    match instruction_of(statement.name.as_slice(), statement.size, operands, at) {
-        Ok(instruction) => match encode(&instruction) {
-            Ok(spelled) => spelled.as_slice() == words,
-            Err(_) => false,
-        },
-        Err(_) => false,
+    match words_of(statement.name.as_slice(), statement.size, operands, at) {
+        Some(said) => said.as_slice() == words,
+        None => false,
     }
 }
 
-/// Whether a statement at an even address is what its text is read as, and says just these words.
+/// Whether a statement that a line makes of words has a text and says just these words.
 fn says(at: u32, words: &[u16], statement: &Statement) -> bool
     ensures { result ≡ says at words.now (statement_said statement.now) }
 {
-    at % 2 == 0 && is_written(statement) && is_meant(at, words, statement)
+    have_texts(statement.operands.as_slice()) && are_said(at, words, statement)
 }
 
-/// The line that a line of the table of mnemonics reads from the words at an address, where it says just them.
-fn line_read<'w>(mnemonic: &Mnemonic, at: u32, words: &'w [u16]) -> Option<Line<'w>>
+/// The line that a line of the table of mnemonics makes of the words of an instruction, where it says just them.
+fn line_by<'w>(mnemonic: &Mnemonic, at: u32, words: &'w [u16]) -> Option<Line<'w>>
     requires { IsTrue (is_short mnemonic.now) }
     ensures line { option_map line_said result
-        ≡ option_and_then (λ r. line_read at words.now r) (reading_by mnemonic.now at words.now) }
+        ≡ option_and_then (listing.line_said at words.now) (statement_by mnemonic.now at words.now) }
     ensures few { IfSome result (λ line. length line.words.now ≤ length words.now) }
     ensures short { IfSome result (λ line. array_vec_len line.text ≤ 301) }
 {
-    let Reading {
-        statement,
-        words: count,
-    } = reading_by(mnemonic, at, words)?;
-    let front = front_of(words, count as usize);
-    if says(at, front, &statement) {
-        Some(Line {
-            at,
-            words: front,
-            text: statement_text(&statement),
-        })
+    let statement = statement_by(mnemonic, at, words)?;
+    if says(at, words, &statement) {
+        let text = statement_text(&statement);
+        Some(Line { at, words, text })
     } else {
         None
     }
@@ -148,12 +141,25 @@ fn line_among<'w>(mnemonics: &[Mnemonic], at: u32, words: &'w [u16]) -> Option<L
     let first = words[0];
     for mnemonic in mnemonics {
         if has_bits(mnemonic, first) {
-            if let Some(line) = line_read(mnemonic, at, words) {
+            if let Some(line) = line_by(mnemonic, at, words) {
                 return Some(line);
             }
         }
     }
     None
+}
+
+/// The line of the instruction that the words begin with, where a line of the table makes it.
+fn instruction_line(at: u32, words: &[u16]) -> Option<Line<'_>>
+    requires { 0 < length words.now }
+    ensures line { option_map line_said result ≡ instruction_line at words.now (decode_of words.now) }
+    ensures few { IfSome result (λ line. length line.words.now ≤ length words.now) }
+    ensures short { IfSome result (λ line. array_vec_len line.text ≤ 301) }
+{
+    match decode(words) {
+        Decoded::Whole(_, count) if at % 2 == 0 => line_among(lines(), at, front_of(words, count)),
+        _ => None,
+    }
 }
 
 /// The line at an address by the words that begin there, as far as memory has them.
@@ -164,7 +170,7 @@ pub(crate) fn line_at(at: u32, words: &[u16]) -> Line<'_>
     ensures few { length result.words.now ≤ length words.now }
     ensures short { array_vec_len result.text ≤ 301 }
 {
-    match line_among(lines(), at, words) {
+    match instruction_line(at, words) {
         Some(line) => line,
         None => data_line(at, words),
     }

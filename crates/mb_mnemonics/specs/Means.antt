@@ -75,6 +75,11 @@ abbrev pub said : Form → List (Operand ℤ) → ℕ → Option (List ℕ)
 said f os at = option_map (words_said f)
     (operands_said (patterns_of f.line.operands) f.size at ((at + (2 + 2 * f.line.words)) % 2 ^ 32) os (in_first 0))
 
+-- The words that the table has for a statement at the address: none where no line has its form, or a number is out of
+-- its range.
+abbrev pub words_by : List ℕ → Option SizeLetter → List (Operand ℤ) → ℕ → Option (List ℕ)
+words_by name letter os at = option_and_then (λ f. said f os at) (form_among lines name letter os)
+
 -- the instruction that so many words are, all of them
 abbrev pub whole : ℕ → Decoded → Result Instr MeansFault
 whole count (Whole i n) = if n == count then Ok i else Err fault.Operand

@@ -6,13 +6,12 @@ ghost use Rattle.mb_instr.specs.Codes.{IsInstr};
 ghost use Rattle.mb_mnemonics.specs.Code.{is_short, said_of};
 ghost use Rattle.mb_mnemonics.specs.Lines.{patterns_of};
 ghost use Rattle.mb_mnemonics.specs.Means.{form_said, said_form, form_by, form_among, is_named, form_of};
-ghost use Rattle.mb_mnemonics.specs.Means.{first_word, words_said, said, meaning, length_by};
+ghost use Rattle.mb_mnemonics.specs.Means.{first_word, words_said, said, meaning, words_by, length_by};
 ghost use Rattle.mb_mnemonics.specs.Operands.{operands_words};
 
 use crate::endings::condition_by;
 use crate::fault::MeansFault;
 use crate::line::{Line, Patterns};
-use crate::modes::push_words;
 use crate::reading::{Said, add_operands, operand_words, takes_operands};
 use crate::table::lines;
 use arrayvec::ArrayVec;
@@ -97,7 +96,7 @@ fn form_of(
 }
 
 /// The words of a statement.
-type Words = ArrayVec<u16, 18>;
+pub type Words = ArrayVec<u16, 18>;
 
 /// The first word: the line's bits, the condition, the size and what the operands say.
 fn first_word(form: &Form, said: &Said) -> u16
@@ -124,7 +123,7 @@ fn words_said(form: &Form, said: &Said) -> Words
     if line.words > 1 {
         words.push(said.third);
     }
-    push_words(&mut words, said.own.as_slice());
+    words.try_extend_from_slice(said.own.as_slice()).unwrap();
     words
 }
 
@@ -137,6 +136,20 @@ fn said(form: &Form, operands: &[Operand<i64>], at: u32) -> Option<Words>
     let mut said = Said::new();
     add_operands(form.line.operands, form.size, at, here, operands, &mut said)?;
     Some(words_said(form, &said))
+}
+
+/// The words that the table has for a statement at the address, as [`instruction_of`] takes one; none where no line has
+/// its form, or a number is out of its range. Whether they are an instruction is left open.
+pub fn words_of(
+    name: &[u8],
+    size: Option<SizeLetter>,
+    operands: &[Operand<i64>],
+    at: u32,
+) -> Option<Words>
+    ensures { option_map (λ words. words.items) result ≡ words_by name.now size operands.now at }
+{
+    let form = form_among(lines(), name, size, operands)?;
+    said(&form, operands, at)
 }
 
 /// The instruction that a statement at the address means, of an operation's name, which may be in either case, its size
@@ -161,7 +174,7 @@ pub fn instruction_of(
 }
 
 /// How many words the operands have.
-pub fn operands_words(patterns: Patterns, size: Size, operands: &[Operand<i64>]) -> u32
+fn operands_words(patterns: Patterns, size: Size, operands: &[Operand<i64>]) -> u32
     ensures value { result ≡ operands_words (patterns_of patterns) size operands.now }
     ensures few { result ≤ 5 * length (patterns_of patterns) }
 {

@@ -20,7 +20,7 @@ mod table;
 
 pub use endings::{NameOf, ending_name};
 pub use fault::MeansFault;
-pub use front::{instruction_of, length_of, operands_words};
+pub use front::{instruction_of, length_of, words_of};
 pub use line::{Ending, Line, Patterns, Stem};
 pub use pattern::{Pattern, Place};
 pub use range::{Range, number};

@@ -302,17 +302,6 @@ fn outer_displacement(form: &FullForm<i64>) -> Option<Own>
     }
 }
 
-/// Appends words.
-pub(crate) fn push_words<const MOST: usize>(words: &mut ArrayVec<u16, MOST>, more: &[u16])
-    requires { array_vec_len words.old + length more.now ≤ MOST }
-    ensures pushed { words.new.items ≡ words.old.items ++ more.now }
-    ensures len { array_vec_len words.new ≡ array_vec_len words.old + length more.now }
-{
-    for word in more {
-        words.push(*word);
-    }
-}
-
 /// The words of a full form of which the first stands at the place.
 fn full(place: u32, form: &FullForm<i64>) -> Option<Own>
     ensures { option_map (λ own. own.items) result ≡ full place form.now }
@@ -321,8 +310,8 @@ fn full(place: u32, form: &FullForm<i64>) -> Option<Own>
     let outer = outer_displacement(form)?;
     let mut own = Own::new();
     own.push(full_word(form));
-    push_words(&mut own, base.as_slice());
-    push_words(&mut own, outer.as_slice());
+    own.try_extend_from_slice(base.as_slice()).unwrap();
+    own.try_extend_from_slice(outer.as_slice()).unwrap();
     Some(own)
 }
 

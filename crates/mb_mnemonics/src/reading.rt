@@ -15,7 +15,7 @@ ghost use Rattle.mb_mnemonics.specs.Operands.{operand_said, operands_said};
 use crate::line::Patterns;
 use crate::modes::{
     Own, extension_words, immediate, immediate_words, in_class, is_word, long, lower_of, mode_of,
-    mode_words, push_words,
+    mode_words,
 };
 use crate::pattern::{Pattern, Place};
 use crate::range::{Range, branch, number};
@@ -151,48 +151,39 @@ struct Part {
 }
 
 impl Part {
+    fn new(first: u16, second: u16, third: u16, own: Own) -> Part
+        ensures { part_said result ≡ record { first = first; second = second; third = third; own = own.items } }
+    {
+        Part {
+            first,
+            second,
+            third,
+            own,
+        }
+    }
+
     fn in_first(bits: u16) -> Part
         ensures { part_said result ≡ in_first bits }
     {
-        Part {
-            first: bits,
-            second: 0,
-            third: 0,
-            own: Own::new(),
-        }
+        Part::new(bits, 0, 0, Own::new())
     }
 
     fn in_second(bits: u16) -> Part
         ensures { part_said result ≡ in_second bits }
     {
-        Part {
-            first: 0,
-            second: bits,
-            third: 0,
-            own: Own::new(),
-        }
+        Part::new(0, bits, 0, Own::new())
     }
 
     fn in_both(bits: u16, more: u16) -> Part
         ensures { part_said result ≡ in_both bits more }
     {
-        Part {
-            first: 0,
-            second: bits,
-            third: more,
-            own: Own::new(),
-        }
+        Part::new(0, bits, more, Own::new())
     }
 
     fn in_own(own: Own) -> Part
         ensures { part_said result ≡ in_own own.items }
     {
-        Part {
-            first: 0,
-            second: 0,
-            third: 0,
-            own,
-        }
+        Part::new(0, 0, 0, own)
     }
 }
 
@@ -219,7 +210,7 @@ impl Said {
         self.first = self.first.wrapping_add(part.first);
         self.second = self.second.wrapping_add(part.second);
         self.third = self.third.wrapping_add(part.third);
-        push_words(&mut self.own, part.own.as_slice());
+        self.own.try_extend_from_slice(part.own.as_slice()).unwrap();
     }
 }
 
@@ -340,13 +331,7 @@ fn destination_bits(mode: &Mode<i64>) -> u16
 fn ea_said(size: Size, here: u32, bits: u16, mode: &Mode<i64>) -> Option<Part>
     ensures { option_map part_said result ≡ ea_said size here bits mode.now }
 {
-    let own = extension_words(size, here, mode)?;
-    Some(Part {
-        first: bits,
-        second: 0,
-        third: 0,
-        own,
-    })
+    Some(Part::new(bits, 0, 0, extension_words(size, here, mode)?))
 }
 
 /// What a mode says by its pattern, in a statement at the address, where the mode's own words stand here.
@@ -356,8 +341,9 @@ fn mode_said(pattern: Pattern, size: Size, at: u32, here: u32, mode: &Mode<i64>)
 {
     let value = value_of(mode);
     Some(match pattern {
-        Pattern::Mode(_) | Pattern::Memory(_) | Pattern::DataMode => ea_said(size, here, source_bits(mode), mode)?,
-        Pattern::Destination(_) => ea_said(size, here, destination_bits(mode), mode)?,
+        Pattern::Mode(_) | Pattern::Memory(_) | Pattern::DataMode =>
+            return ea_said(size, here, source_bits(mode), mode),
+        Pattern::Destination(_) => return ea_said(size, here, destination_bits(mode), mode),
         Pattern::Data(place) | Pattern::Address(place) | Pattern::Register(place) | Pattern::Indirect(place)
         | Pattern::PostIncrement(place) | Pattern::PreDecrement(place) => register_at(place, general(mode)),
         Pattern::Immediate => Part::in_own(immediate(size, number(Range::of_immediate(size), value)?)),
@@ -414,13 +400,12 @@ fn operand_said(
         Operand::Mode(mode) => return mode_said(pattern, size, at, here, mode),
         Operand::Field { mode, field } => {
             let second = field_bits(field)?;
-            let own = extension_words(size, here, mode)?;
-            Part {
-                first: source_bits(mode),
+            Part::new(
+                source_bits(mode),
                 second,
-                third: 0,
-                own,
-            }
+                0,
+                extension_words(size, here, mode)?,
+            )
         }
         Operand::Control(register) => Part::in_second(register.code()),
         Operand::List(list) => list_said(pattern, *list),

@@ -9,3 +9,4 @@ pub mod Fits
 pub mod Said
 pub mod StatementsSaid
 pub mod StatementsRead
+pub mod LinesWritten

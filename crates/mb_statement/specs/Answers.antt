@@ -2,7 +2,6 @@
 use Rattle.std.specs.Prelude.{ℤ, List, []}
 use Rattle.mb_syntax.specs.declared.operand.Operand.{Operand}
 use Rattle.mb_statement.specs.declared.operands.Front.{Front}
-use Rattle.mb_statement.specs.declared.reading.Reading.{Reading}
 use Rattle.mb_statement.specs.declared.statement.Operands.{Operands}
 use Rattle.mb_statement.specs.declared.statement.Operands.TheVariants.{Nothing, One, Two, Three}
 use Rattle.mb_statement.specs.declared.statement.Statement.{Statement}
@@ -16,9 +15,6 @@ operands_said (Three os) = os
 
 abbrev pub statement_said : Statement → statements.Statement
 statement_said s = record { name = s.name.items; size = s.size; operands = operands_said s.operands }
-
-abbrev pub reading_said : Reading → statements.Reading
-reading_said r = record { statement = statement_said r.statement; words = r.words }
 
 abbrev pub front_said : Front → statements.Front
 front_said f = record { first = f.first; second = f.second; third = f.third }

@@ -33,7 +33,7 @@ use Rattle.mb_mnemonics.specs.declared.sizes.SizeField.TheVariants.{Usual, Bit8,
 use Rattle.mb_mnemonics.specs.declared.sizes.Sizes.{Sizes}
 use Rattle.mb_mnemonics.specs.declared.sizes.Sizes.TheVariants.{Unsized, Only, Written, Stated, Short, WordLong, Any}
 use Rattle.mb_mnemonics.specs.Lines.{ending_name, endings, patterns_of, stem_of}
-use Rattle.mb_mnemonics.specs.Operands.{operand_words, operands_words}
+use Rattle.mb_mnemonics.specs.Operands.{operand_words}
 use Rattle.mb_statement.specs.Modes.{long_in, mode_in, number_in, target_of, word_in}
 
 -- the name of an operation, its size where one is written, and its operands
@@ -198,30 +198,19 @@ operands_in (p ∷ ps) s at here f own =
 
 -- ---- statements
 
--- a statement, and how many words it is of
-pub record Reading : Type 0 where
-  pub statement : Statement
-  pub words : ℕ
-
 abbrev pub statement_in : Line → Size → ℕ → List ℕ → Statement
 statement_in l s at ws = record {
   name = stem_of l.stem ++ ending_name (endings l.ending) (word_in 0 ws / 2 ^ 8 % 16);
   size = letter_by l.sizes s;
-  operands = operands_in (patterns_of l.operands) s at ((at + 2 * (1 + l.words)) % 2 ^ 32) (front_of ws) (drop (1 + l.words) ws);
-}
-
--- a line's reading of words, at the size
-abbrev pub sized_reading : Line → Size → ℕ → List ℕ → Reading
-sized_reading l s at ws = let statement = statement_in l s at ws in record {
-  statement = statement;
-  words = 1 + l.words + operands_words (patterns_of l.operands) s statement.operands;
+  operands = operands_in (patterns_of l.operands) s at ((at + 2 * (1 + l.words)) % 2 ^ 32) (front_of ws)
+      (drop (1 + l.words) ws);
 }
 
 -- the first word has the bits of the line that belong to no field
 abbrev pub has_bits : Line → ℕ → Bool
 has_bits l first = bit_and first l.fixed == l.first
 
--- A line's reading of the words at an address, where the first word says a size that the line has. Whether the
--- statement says just these words is left open.
-unfoldable pub reading_by : Line → ℕ → List ℕ → Option Reading
-reading_by l at ws = option_map (λ s. sized_reading l s at ws) (size_by l.sizes (word_in 0 ws))
+-- A line's statement of the words at an address, where the first word says a size that the line has. Whether it says
+-- just these words is left open.
+unfoldable pub statement_by : Line → ℕ → List ℕ → Option Statement
+statement_by l at ws = option_map (λ s. statement_in l s at ws) (size_by l.sizes (word_in 0 ws))

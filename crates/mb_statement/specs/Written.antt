@@ -96,3 +96,15 @@ is_operand caches (operand.Text t) = false
 
 unfoldable pub is_written : Statement → Bool
 is_written s = is_name s.name && list_all (is_operand (takes_caches s.name)) s.operands
+
+-- a full form says that it is one
+abbrev pub is_plain : Mode ℤ → Bool
+is_plain (mode.Full f) = says_full f
+is_plain _ = true
+
+-- What a line of the table makes of words is written where this holds of each operand.
+abbrev pub has_text : Operand ℤ → Bool
+has_text (operand.Mode m) = is_plain m
+has_text (operand.Field m f) = is_plain m
+has_text (operand.List mask) = is_list mask
+has_text _ = true

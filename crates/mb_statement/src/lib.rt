@@ -14,7 +14,7 @@ mod text;
 mod written;
 
 pub use numbers::{LineText, push_number};
-pub use reading::{Reading, has_bits, reading_by};
+pub use reading::{has_bits, statement_by};
 pub use statement::{Name, Operands, Statement};
-pub use text::{asks_full, push_bytes, push_statement};
-pub use written::is_written;
+pub use text::{push_bytes, push_statement};
+pub use written::have_texts;

@@ -1,28 +1,18 @@
 //! What a line of the table of mnemonics makes of words.
 
 ghost use Rattle.std.specs.Prelude.{◌≡◌, ◌+◌, ◌*◌, ◌/◌, ◌%◌, ◌^◌, ◌≤◌, ◌++◌, IfSome, IsTrue, drop, length, option_map};
-ghost use Rattle.arrayvec.specs.ArrayVec.{array_vec_len};
 ghost use Rattle.mb_mnemonics.specs.Code.{is_short};
 ghost use Rattle.mb_mnemonics.specs.Lines.{ending_name, endings, patterns_of, stem_of};
 ghost use Rattle.mb_mnemonics.specs.Operands.{operand_words};
 ghost use Rattle.mb_statement.specs.Statements as statements;
-ghost use Rattle.mb_statement.specs.Answers.{front_said, operands_said, reading_said, statement_said};
+ghost use Rattle.mb_statement.specs.Answers.{front_said, operands_said, statement_said};
 
 use crate::modes::word_in;
 use crate::operands::{Front, front_of, operand_in};
 use crate::statement::{Name, Operands, Statement};
 use mb_instr::Size;
-use mb_mnemonics::{
-    Line, Pattern, Patterns, SizeField, Sizes, ending_name, operand_words, operands_words,
-};
+use mb_mnemonics::{Line, Pattern, Patterns, SizeField, Sizes, ending_name, operand_words};
 use mb_syntax::{Operand, SizeLetter};
-
-/// A statement, and how many words it is of.
-#[derive(Drop)]
-pub struct Reading {
-    pub statement: Statement,
-    pub words: u32,
-}
 
 /// The size that the first word says.
 fn size_field(field: SizeField, first: u16) -> Option<Size>
@@ -71,16 +61,6 @@ fn letter_by(sizes: Sizes, size: Size) -> Option<SizeLetter>
     }
 }
 
-fn push_all(name: &mut Name, bytes: &[u8])
-    requires { array_vec_len name.old + length bytes.now ≤ 8 }
-    ensures pushed { name.new.items ≡ name.old.items ++ bytes.now }
-    ensures len { array_vec_len name.new ≡ array_vec_len name.old + length bytes.now }
-{
-    for byte in bytes {
-        name.push(*byte);
-    }
-}
-
 /// The name of a line, by the first word.
 fn name_by(line: &Line, first: u16) -> Name
     requires { IsTrue (is_short line.now) }
@@ -88,8 +68,9 @@ fn name_by(line: &Line, first: u16) -> Name
     ensures short { length result.items ≤ 8 }
 {
     let mut name = Name::new();
-    push_all(&mut name, line.stem.letters());
-    push_all(&mut name, ending_name(line.ending, (first >> 8 & 15) as u8));
+    let ending = ending_name(line.ending, (first >> 8 & 15) as u8);
+    name.try_extend_from_slice(line.stem.letters()).unwrap();
+    name.try_extend_from_slice(ending).unwrap();
     name
 }
 
@@ -161,19 +142,6 @@ fn statement_in(line: &Line, size: Size, at: u32, words: &[u16]) -> Statement
     }
 }
 
-fn sized_reading(line: &Line, size: Size, at: u32, words: &[u16]) -> Reading
-    requires { IsTrue (is_short line.now) }
-    ensures reading { reading_said result ≡ statements.sized_reading line.now size at words.now }
-    ensures short { length result.statement.name.items ≤ 8 }
-{
-    let statement = statement_in(line, size, at, words);
-    let own = operands_words(line.operands, size, statement.operands.as_slice());
-    Reading {
-        statement,
-        words: 1 + u32::from(line.words) + own,
-    }
-}
-
 /// Whether the first word has the bits of the line that belong to no field.
 pub fn has_bits(line: &Line, first: u16) -> bool
     ensures { result ≡ statements.has_bits line.now first }
@@ -181,14 +149,14 @@ pub fn has_bits(line: &Line, first: u16) -> bool
     first & line.fixed == line.first
 }
 
-/// A line's reading of the words at an address, where the first word says a size that the line has. Whether the
-/// statement says just these words is left open.
-#[tactic(auto, unfolding(crate::specs::Statements::reading_by))]
-pub fn reading_by(line: &Line, at: u32, words: &[u16]) -> Option<Reading>
+/// A line's statement of the words at an address, where the first word says a size that the line has. Whether it says
+/// just these words is left open.
+#[tactic(auto, unfolding(crate::specs::Statements::statement_by))]
+pub fn statement_by(line: &Line, at: u32, words: &[u16]) -> Option<Statement>
     requires { IsTrue (is_short line.now) }
-    ensures reading { option_map reading_said result ≡ statements.reading_by line.now at words.now }
-    ensures short { IfSome result (λ reading. length reading.statement.name.items ≤ 8) }
+    ensures statement { option_map statement_said result ≡ statements.statement_by line.now at words.now }
+    ensures short { IfSome result (λ statement. length statement.name.items ≤ 8) }
 {
     let size = size_by(line.sizes, word_in(0, words))?;
-    Some(sized_reading(line, size, at, words))
+    Some(statement_in(line, size, at, words))
 }

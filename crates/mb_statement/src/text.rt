@@ -25,9 +25,7 @@ pub fn push_bytes(line: &mut LineText, bytes: &[u8])
     ensures pushed { line.new.items ≡ line.old.items ++ bytes.now }
     ensures len { array_vec_len line.new ≡ array_vec_len line.old + length bytes.now }
 {
-    for byte in bytes {
-        line.push(*byte);
-    }
+    line.try_extend_from_slice(bytes).unwrap();
 }
 
 /// `Dn` or `An`.
@@ -189,7 +187,7 @@ fn is_no_index(index: Index) -> bool
 }
 
 /// Whether brackets, a base displacement with its width or a dropped base ask for the full form.
-pub fn asks_full(form: &FullForm<i64>) -> bool
+pub(crate) fn asks_full(form: &FullForm<i64>) -> bool
     ensures { result ≡ asks_full form.now }
 {
     !matches!(form.indirection, Indirection::Direct)

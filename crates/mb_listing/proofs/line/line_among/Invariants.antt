@@ -1,5 +1,5 @@
 -- What is found in the rest is what is found in all, and the rest is short.
-use Rattle.std.proofs.Common.{◌≡◌, map, drop}
+use Rattle.std.proofs.Common.{◌≡◌, drop}
 use Rattle.std.specs.Prelude.{IsTrue}
 use Rattle.std.specs.List.{list_all}
 use Rattle.mb_mnemonics.specs.Code.{is_short}
