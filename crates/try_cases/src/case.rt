@@ -4,15 +4,21 @@ use crate::chunk::{Chunk, UnsaidBits};
 use crate::registers::Registers;
 use std::fmt;
 
-/// A machine before one instruction or a few, and the machine after them as another machine had it.
+/// What a case is told by.
 #[derive(Drop)]
-pub struct Case {
+pub struct Name {
     /// Its number in its file.
     pub number: u32,
     /// Its row of the table of instructions, or what it is a case of, and after a dot its form or size.
     pub kind: String,
     /// The digits of the words of its instructions.
     pub words: String,
+}
+
+/// A machine before one instruction or a few, and the machine after them as another machine had it.
+#[derive(Drop)]
+pub struct Case {
+    pub name: Name,
     /// What stands in RAM at first, later chunks over earlier ones. Code that stands there too gives the machine its
     /// registers.
     pub image: Vec<Chunk>,
@@ -30,7 +36,7 @@ pub struct Case {
     pub unsaid_bits: Vec<UnsaidBits>,
 }
 
-impl fmt::Display for Case {
+impl fmt::Display for Name {
     fn fmt<W: fmt::Write>(&self, f: &mut fmt::Formatter<W>) -> fmt::Result {
         write!(f, "{} {} {}", self.number, self.kind, self.words)
     }

@@ -4,11 +4,6 @@ use crate::fault::CaseFault;
 use std::alloc::Global;
 use std::str::SplitWhitespace;
 
-/// Whether a word is another one.
-pub fn is_word(word: &str, other: &str) -> bool {
-    word == other
-}
-
 /// The next word.
 pub fn next_word<'a>(words: &mut SplitWhitespace<'a>) -> Result<&'a str, CaseFault> {
     words.next().ok_or(CaseFault::Missing)

@@ -2,7 +2,7 @@
 
 use crate::chunk::Chunk;
 use crate::fault::CaseFault;
-use crate::fields::{is_word, next_number, next_word};
+use crate::fields::{next_number, next_word, read_bytes};
 use crate::memory::Stretches;
 use crate::registers::{COUNT, Registers};
 use crate::single::{self, Single};
@@ -20,14 +20,14 @@ pub enum Form {
 }
 
 /// What gives the machine its registers.
-#[derive(Drop)]
+#[derive(Clone, Copy)]
 pub enum SetUp {
     Single(Single),
     System(System),
 }
 
 /// What the first part of a line says.
-#[derive(Drop)]
+#[derive(Clone, Copy)]
 pub struct Head<'a> {
     pub number: u32,
     pub kind: &'a str,
@@ -39,10 +39,9 @@ pub struct Head<'a> {
 
 /// `both` where two machines agree in all that is compared, `one` where one of them is followed.
 fn read_followed(word: &str) -> Result<(), CaseFault> {
-    if is_word(word, "both") || is_word(word, "one") {
-        Ok(())
-    } else {
-        Err(CaseFault::Missing)
+    match word.as_bytes() {
+        b"both" | b"one" => Ok(()),
+        _ => Err(CaseFault::Missing),
     }
 }
 
@@ -142,16 +141,18 @@ pub struct Setting {
     pub stacks: bool,
 }
 
-/// What runs the case of which this is the second part.
-pub fn setting_of(
-    alloc: Global,
-    head: &Head,
-    words: &[u8],
-    part: &str,
-) -> Result<Setting, CaseFault> {
+/// What stands in RAM before the case of which this is the second part.
+fn image_of(alloc: Global, head: &Head, part: &str) -> Result<Stretches, CaseFault> {
+    let words = read_bytes(alloc, head.words)?;
     let mut image = Stretches::new(alloc);
     head.set_up
-        .add_to(alloc, &mut image, &head.before, words, part)?;
+        .add_to(alloc, &mut image, &head.before, &words, part)?;
+    Ok(image)
+}
+
+/// What runs the case of which this is the second part.
+pub fn setting_of(alloc: Global, head: &Head, part: &str) -> Result<Setting, CaseFault> {
+    let image = image_of(alloc, head, part)?;
     Ok(Setting {
         image: image.chunks,
         steps: head.set_up.steps(),

@@ -27,9 +27,9 @@ mod system;
 
 use anyhow::{anyhow, ensure};
 use bench::Bench;
-use case::Case;
+use case::{Case, Name};
 use difference::Difference;
-use file::read_file;
+use file::{BadLine, CaseFile, read_file};
 use head::Form;
 use std::rt::Files;
 use std::{fmt, fs, io};
@@ -38,7 +38,7 @@ use std::{fmt, fs, io};
 #[derive(Drop)]
 struct Failed<'a> {
     file: &'a str,
-    case: &'a Case,
+    case: &'a Name,
     found: Difference,
 }
 
@@ -48,8 +48,9 @@ impl fmt::Display for Failed<'_> {
     }
 }
 
-/// Tells it.
-fn tell(rt: &impl Print, failed: &Failed<'_>) -> io::Result<()> {
+/// Tells of a case what is first found to be another.
+fn tell(rt: &impl Print, file: &str, case: &Name, found: Difference) -> io::Result<()> {
+    let failed = Failed { file, case, found };
     println!(rt; "{failed}")
 }
 
@@ -62,14 +63,14 @@ fn run_cases(rt: &impl Print, file: &str, bench: &mut Bench, cases: &[Case]) -> 
     for case in cases {
         match bench.try_case(case) {
             None => passed += 1,
-            Some(found) => tell(rt, &Failed { file, case, found })?,
+            Some(found) => tell(rt, file, &case.name, found)?,
         }
     }
     Ok(passed)
 }
 
 /// How many of a file's cases pass, and how many of its lines do not: cases, and lines that are none.
-#[derive(Drop)]
+#[derive(Clone, Copy)]
 struct Tally {
     passed: usize,
     failed: usize,
@@ -85,6 +86,25 @@ impl Tally {
     }
 }
 
+/// What a file has.
+fn contents_of(
+    rt: &(impl Files + AllocGlobal),
+    form: Form,
+    path: &str,
+) -> anyhow::Result<CaseFile> {
+    let text = fs::read(rt, path)?;
+    ensure!(text.len() < 1 << 31, "{path} is too long");
+    Ok(read_file(rt.alloc(), form, &text)?)
+}
+
+/// Tells the lines of a file that are no case.
+fn tell_bad(rt: &impl Print, name: &str, lines: &[BadLine]) -> io::Result<()> {
+    for line in lines {
+        println!(rt; "{name} {line}")?;
+    }
+    Ok(())
+}
+
 /// Runs the cases of a file, and tells what does not pass.
 fn run_file(
     rt: &(impl Files + Print + AllocGlobal),
@@ -93,24 +113,25 @@ fn run_file(
     path: &str,
     bench: &mut Bench,
 ) -> anyhow::Result<Tally> {
-    let text = fs::read(rt, path)?;
-    ensure!(text.len() < 1 << 31, "{path} is too long");
-    let file = read_file(rt.alloc(), form, &text)?;
-    for line in &file.bad {
-        println!(rt; "{name} {line}")?;
-    }
+    let file = contents_of(rt, form, path)?;
+    tell_bad(rt, name, &file.bad)?;
     let passed = run_cases(rt, name, bench, &file.cases)?;
     println!(rt; "{name}: {passed} passed")?;
     let failed = (file.cases.len() - passed).saturating_add(file.bad.len());
     Ok(Tally { passed, failed })
 }
 
+/// Runs all files.
+fn run_all(rt: &(impl Files + Print + AllocGlobal), bench: &mut Bench) -> anyhow::Result<Tally> {
+    let plain = run_file(rt, Form::Single, "plain", "plain.txt", bench)?;
+    let traps = run_file(rt, Form::Single, "traps", "traps.txt", bench)?;
+    let system = run_file(rt, Form::System, "system", "system.txt", bench)?;
+    Ok(plain.and(traps).and(system))
+}
+
 fn main(rt: HostRuntime) -> anyhow::Result<()> {
     let mut bench = Bench::new(rt.alloc()).map_err(|_| anyhow!("memory ran out"))?;
-    let plain = run_file(&rt, Form::Single, "plain", "plain.txt", &mut bench)?;
-    let traps = run_file(&rt, Form::Single, "traps", "traps.txt", &mut bench)?;
-    let system = run_file(&rt, Form::System, "system", "system.txt", &mut bench)?;
-    let all = plain.and(traps).and(system);
+    let all = run_all(&rt, &mut bench)?;
     println!(rt; "{} passed", all.passed)?;
     ensure!(all.failed == 0, "{} failed", all.failed);
     Ok(())

@@ -4,7 +4,6 @@ ghost use Rattle.std.specs.Prelude.{◌≡◌, ◌<◌, IfSome};
 ghost use Rattle.try_cases.specs.Cases.{registers_of};
 ghost use Rattle.try_cases.specs.declared.registers.TheConstants.{COUNT};
 
-use crate::fields::is_word;
 use mb_instr::Regs;
 use mb_model::Cpu;
 use mb_port::Mmu;
@@ -69,7 +68,7 @@ pub fn place_of(name: &str) -> Option<usize>
     ensures { IfSome result (λ place. place < COUNT) }
 {
     for place in 0..COUNT {
-        if is_word(name, NAMES[place]) {
+        if name == NAMES[place] {
             return Some(place);
         }
     }

@@ -16,7 +16,7 @@ pub const SET_UP_STEPS: u32 = 2;
 const SET_UP_BYTES: u32 = 12;
 
 /// Two instructions that stand before the case's own.
-#[derive(Drop)]
+#[derive(Clone, Copy)]
 pub struct Single {
     /// Where the values of D0 to D7 and A0 to A6 stand in RAM.
     table: u32,

@@ -4,7 +4,7 @@ use crate::case::PERIOD;
 use crate::chunk::RAM_SIZE;
 use crate::code::{add_long, add_with_long, add_word};
 use crate::fault::CaseFault;
-use crate::fields::{is_word, next_long, next_longs, next_status, next_word};
+use crate::fields::{next_long, next_longs, next_status, next_word};
 use crate::memory::Stretches;
 use crate::registers::{A0, COUNT, D0, ISP, ITT0, MSP, PC, Registers, SR, TC, URP, USP, VBR};
 use mb_instr::MASTER;
@@ -18,7 +18,7 @@ pub const SET_UP_STEPS: u32 = 47;
 const RESET_STACK: u32 = 0x800;
 
 /// Code that gives all registers, and ends with an RTE to the case's own instructions.
-#[derive(Drop)]
+#[derive(Clone, Copy)]
 pub struct System {
     /// How many steps the case's own instructions take.
     pub steps: u8,
@@ -144,10 +144,12 @@ static GROUPS: [(usize, usize); 6] = [
 
 /// `IRQ`, or no word.
 fn read_interrupted(word: Option<&str>) -> Result<bool, CaseFault> {
-    match word {
-        None => Ok(false),
-        Some(word) if is_word(word, "IRQ") => Ok(true),
-        Some(_) => Err(CaseFault::Further),
+    let Some(word) = word else {
+        return Ok(false);
+    };
+    match word.as_bytes() {
+        b"IRQ" => Ok(true),
+        _ => Err(CaseFault::Further),
     }
 }
 
