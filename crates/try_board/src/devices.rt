@@ -3,11 +3,12 @@
 use mb_devices::Devices;
 use mb_port::Place;
 use mb_srec::Image;
+use std::alloc::Global;
 use vm_disk::Disk;
 
 const BASE: u32 = 0xfff0_0000;
 
-#[derive(Clone, Copy, Debug)]
+#[derive(Clone, Copy)]
 enum Act {
     Receive(u8),
     Read(u32, u8),
@@ -91,9 +92,12 @@ static OPERATIONS: [(Act, u32, [u32; 8]); 32] = [
 #[test]
 fn each_operation_leaves(rt: HostRuntime) {
     let mut devices = Devices::new(rt.alloc(), 0x1_0000).expect(&rt, "ample memory");
-    for &(act, value, after) in &OPERATIONS {
-        assert!(rt; answer(&mut devices, act) == Some(value), "{act:?}");
-        assert!(rt; left(&devices) == after, "{act:?}");
+    for (number, &(act, value, after)) in OPERATIONS.iter().enumerate() {
+        let answered = answer(&mut devices, act);
+        assert!(rt;
+            answered == Some(value) && left(&devices) == after,
+            "operation {number}"
+        );
     }
 }
 
@@ -133,23 +137,42 @@ fn are_all_registers(devices: &mut Devices, there: &[(u32, u8)]) -> bool {
     true
 }
 
+/// Whether those of all devices are all that there are, and to try them leaves nothing.
+fn has_no_disk(devices: &mut Devices) -> bool {
+    are_all_registers(devices, &REGISTERS[..8])
+        && !devices.has(Place { at: 0x24, len: 4 })
+        && left(devices) == [2, 0, 0, 0, 0, 0, 0, 0]
+        && devices.disk().is_none()
+}
+
+/// Whether all registers are there with a disk of three blocks, which a reset and a restart leave.
+fn has_disk(devices: &mut Devices) -> bool {
+    if !are_all_registers(devices, &REGISTERS) || devices.read(place(0x30, 4)) != Some(3) {
+        return false;
+    }
+    devices.write(place(0x34, 4), 2);
+    devices.reset();
+    let block = devices.read(place(0x34, 4));
+    devices.restart();
+    block == Some(0) && devices.disk().is_some_and(|disk| disk.blocks() == 3)
+}
+
+/// Attaches a disk of three blocks, where there is none.
+fn attach_disk(alloc: Global, devices: &mut Devices) -> Option<()> {
+    let disk = Disk::new(alloc, 3, &Image::new(Vec::new(alloc))).ok()?;
+    if devices.disk().is_none() {
+        devices.attach(disk);
+        return Some(());
+    }
+    None
+}
+
 #[test]
 fn a_register_has_one_size(rt: HostRuntime) {
     let mut devices = Devices::new(rt.alloc(), 0x1_0000).expect(&rt, "ample memory");
-    assert!(rt; are_all_registers(&mut devices, &REGISTERS[..8]));
-    assert!(rt; !devices.has(Place { at: 0x24, len: 4 }));
-    assert!(rt; left(&devices) == [2, 0, 0, 0, 0, 0, 0, 0]);
-    assert!(rt; devices.disk().is_none());
-    let contents = Image::new(Vec::new(rt.alloc()));
-    let disk = Disk::new(rt.alloc(), 3, &contents).expect(&rt, "ample memory");
-    devices.attach(disk);
-    assert!(rt; are_all_registers(&mut devices, &REGISTERS));
-    assert!(rt; devices.read(place(0x30, 4)) == Some(3));
-    devices.write(place(0x34, 4), 2);
-    devices.reset();
-    assert!(rt; devices.read(place(0x34, 4)) == Some(0));
-    devices.restart();
-    assert!(rt; devices.disk().is_some_and(|disk| disk.blocks() == 3));
+    assert!(rt; has_no_disk(&mut devices));
+    assert!(rt; attach_disk(rt.alloc(), &mut devices).is_some());
+    assert!(rt; has_disk(&mut devices));
 }
 
 /// The bytes of a full queue.
@@ -158,43 +181,75 @@ static QUEUED: [u8; 16] = [0, 1, 2, 3, 4, 5, 6, 7, 8, 9, 10, 11, 12, 13, 14, 15]
 /// COUNT after each tick of a timer whose period is 3.
 static COUNTS: [u32; 9] = [2, 1, 3, 2, 1, 3, 2, 1, 3];
 
-#[test]
-fn each_limit_once(rt: HostRuntime) {
-    // the seventeenth byte is dropped
-    let mut devices = Devices::new(rt.alloc(), 0x1_0000).expect(&rt, "ample memory");
+/// Whether the seventeenth byte is dropped, and all others are read in their order.
+fn queues_sixteen(devices: &mut Devices) -> bool {
     for byte in 0..=16 {
         devices.receive(byte);
     }
-    assert!(rt; devices.queue().as_slice() == &QUEUED[..]);
-    assert!(rt; devices.status() == 7);
-    assert!(rt; devices.write(place(0x01, 1), 0) == Some(()));
-    assert!(rt; devices.status() == 3);
-    for &byte in &QUEUED {
-        assert!(rt; devices.read(place(0x00, 1)) == Some(u32::from(byte)));
+    if devices.queue().as_slice() != &QUEUED[..] || devices.status() != 7 {
+        return false;
     }
-    assert!(rt; devices.status() == 2);
-    // the timer asks each period
-    let mut devices = Devices::new(rt.alloc(), 0x1_0000).expect(&rt, "ample memory");
-    assert!(rt; devices.write(place(0x10, 4), 3) == Some(()));
+    devices.write(place(0x01, 1), 0) == Some(()) && devices.status() == 3 && reads_queue(devices)
+}
+
+/// Whether all bytes of a full queue are read, and then it is empty.
+fn reads_queue(devices: &mut Devices) -> bool {
+    for &byte in &QUEUED {
+        if devices.read(place(0x00, 1)) != Some(u32::from(byte)) {
+            return false;
+        }
+    }
+    devices.status() == 2
+}
+
+/// Whether the timer asks after each period of three ticks, until it is acknowledged.
+fn asks_each_period(devices: &mut Devices) -> bool {
+    if devices.write(place(0x10, 4), 3) != Some(()) {
+        return false;
+    }
     for &count in &COUNTS {
         devices.tick();
-        assert!(rt; devices.count() == count);
-        assert!(rt; devices.pending() == u32::from(count == 3));
-        assert!(rt; devices.write(place(0x18, 4), 0xffff_ffff) == Some(()));
-        assert!(rt; devices.pending() == 0);
+        if devices.count() != count
+            || devices.pending() != u32::from(count == 3)
+            || devices.write(place(0x18, 4), 0xffff_ffff) != Some(())
+            || devices.pending() != 0
+        {
+            return false;
+        }
     }
-    // a full console counts what is lost
-    let mut devices = Devices::new(rt.alloc(), 0x1_0000).expect(&rt, "ample memory");
+    true
+}
+
+/// How many bytes the console has, and how many are lost.
+fn sent(devices: &Devices) -> (usize, u64) {
+    (devices.console().len(), devices.lost())
+}
+
+/// Whether two of 65,538 bytes are lost that are sent.
+fn loses_two(devices: &mut Devices) -> bool {
     for i in 0..65_538 {
-        assert!(rt; devices.write(place(0x00, 1), i) == Some(()));
+        if devices.write(place(0x00, 1), i) != Some(()) {
+            return false;
+        }
     }
-    assert!(rt; devices.console().len() == 65_536);
-    assert!(rt; devices.console()[0x1234] == 0x34);
-    assert!(rt; devices.lost() == 2);
+    sent(devices) == (65_536, 2) && devices.console().get(0x1234) == Some(&0x34)
+}
+
+/// Whether a reset leaves a full console, and a restart empties it.
+fn is_emptied(devices: &mut Devices) -> bool {
     devices.reset();
-    assert!(rt; devices.console().len() == 65_536);
-    assert!(rt; devices.lost() == 2);
+    let reset = sent(devices);
     devices.restart();
-    assert!(rt; devices.console().len() == 0);
-    assert!(rt; devices.lost() == 0);
+    reset == (65_536, 2) && sent(devices) == (0, 0)
+}
+
+#[test]
+fn each_limit_once(rt: HostRuntime) {
+    let mut devices = Devices::new(rt.alloc(), 0x1_0000).expect(&rt, "ample memory");
+    assert!(rt; queues_sixteen(&mut devices), "queue");
+    let mut devices = Devices::new(rt.alloc(), 0x1_0000).expect(&rt, "ample memory");
+    assert!(rt; asks_each_period(&mut devices), "timer");
+    let mut devices = Devices::new(rt.alloc(), 0x1_0000).expect(&rt, "ample memory");
+    assert!(rt; loses_two(&mut devices), "console");
+    assert!(rt; is_emptied(&mut devices), "console");
 }

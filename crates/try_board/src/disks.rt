@@ -26,70 +26,98 @@ fn begins_as(disk: &Disk, alloc: Global, head: &[u8], tail: &[u8]) -> Option<boo
     Some(sink.bytes() == wanted.as_slice())
 }
 
+/// What the text has before the fifteen last rows of the buffer, and behind them.
+const STORED: &[u8] = b"disk 1 blocks 2\nBLOCK 00000001\nRESULT 00000000\nPOSITION 00000000\n\
+1122334400000000000000000000000000000000000000000000000000000000\n";
+
+const BLOCK: &[u8] = b"00000200 11223344000000000000000000000000\nend\n";
+
+const REFUSED: &[u8] = b"disk 1 blocks 2\nBLOCK 00000002\nRESULT 00000001\nPOSITION 00000000\n\
+1122334400000000000000000000000000000000000000000000000000000000\n";
+
+/// Writes a long of the buffer, and stores the buffer in block 1. Whether each register is as it should be.
+fn stores(disk: &mut Disk) -> bool {
+    let blocks = disk.read(0x30);
+    disk.write(0x3c, 0x1122_3344);
+    let position = disk.position();
+    disk.write(0x34, 1);
+    disk.write(0x38, 2);
+    blocks == 2 && position == 4 && disk.read(0x38) == 0
+}
+
+/// Whether a reset leaves the blocks, and a command 1 brings them back.
+fn brings_back(disk: &mut Disk) -> bool {
+    disk.reset();
+    let cleared = disk.read(0x3c);
+    disk.write(0x34, 1);
+    disk.write(0x38, 1);
+    cleared == 0 && disk.read(0x3c) == 0x1122_3344 && disk.read(0x3c) == 0 && disk.position() == 8
+}
+
 /// The buffer is stored in a block, and shown there.
 #[test]
 fn stores_a_block(rt: HostRuntime) {
     let mut disk = empty(rt.alloc()).expect(&rt, "ample memory");
-    assert!(rt; disk.read(0x30) == 2);
+    assert!(rt; stores(&mut disk));
+    assert!(rt; begins_as(&disk, rt.alloc(), STORED, BLOCK) == Some(true));
+    assert!(rt; brings_back(&mut disk));
+}
+
+/// Writes a long of the buffer, and stores the buffer behind the last block.
+fn stores_behind(disk: &mut Disk) {
     disk.write(0x3c, 0x1122_3344);
-    assert!(rt; disk.position() == 4);
-    disk.write(0x34, 1);
+    disk.write(0x34, 2);
     disk.write(0x38, 2);
-    assert!(rt; disk.read(0x38) == 0);
-    let head = b"disk 1 blocks 2\nBLOCK 00000001\nRESULT 00000000\nPOSITION 00000000\n\
-1122334400000000000000000000000000000000000000000000000000000000\n";
-    let tail = b"00000200 11223344000000000000000000000000\nend\n";
-    let same = begins_as(&disk, rt.alloc(), head, tail).expect(&rt, "ample memory");
-    assert!(rt; same);
-    // RESET leaves the blocks, and a command 1 brings them back
+}
+
+/// Whether a command that there is not is refused, which a reset forgets: then the disk is as another one.
+fn is_refused_and_reset(disk: &mut Disk, other: &Disk) -> bool {
+    disk.write(0x34, 0);
+    disk.write(0x38, 3);
+    let refused = disk.outcome() == 1 && !same_disk(disk, other);
     disk.reset();
-    assert!(rt; disk.read(0x3c) == 0);
-    disk.write(0x34, 1);
-    disk.write(0x38, 1);
-    assert!(rt; disk.read(0x3c) == 0x1122_3344);
-    assert!(rt; disk.read(0x3c) == 0);
-    assert!(rt; disk.position() == 8);
+    refused && same_disk(disk, other)
+}
+
+/// Whether a disk goes on with what it adopts: a position of 508 in a buffer whose byte 3 is 7.
+fn adopts(disk: &mut Disk) -> bool {
+    let mut buffer = [0u8; 512];
+    buffer[3] = 7;
+    disk.adopt(1, 1, 508, &buffer);
+    disk.block() == 1 && disk.outcome() == 1 && disk.read(0x3c) == 0 && disk.read(0x3c) == 7
 }
 
 /// A block that there is not refuses a command, and so does a command that there is not.
 #[test]
 fn refuses_a_command(rt: HostRuntime) {
     let mut disk = empty(rt.alloc()).expect(&rt, "ample memory");
-    disk.write(0x3c, 0x1122_3344);
-    disk.write(0x34, 2);
-    disk.write(0x38, 2);
-    let head = b"disk 1 blocks 2\nBLOCK 00000002\nRESULT 00000001\nPOSITION 00000000\n\
-1122334400000000000000000000000000000000000000000000000000000000\n";
-    let same = begins_as(&disk, rt.alloc(), head, b"end\n").expect(&rt, "ample memory");
-    assert!(rt; same);
-    disk.write(0x34, 0);
-    disk.write(0x38, 3);
-    assert!(rt; disk.outcome() == 1);
+    stores_behind(&mut disk);
+    assert!(rt; begins_as(&disk, rt.alloc(), REFUSED, b"end\n") == Some(true));
     let other = empty(rt.alloc()).expect(&rt, "ample memory");
-    assert!(rt; !same_disk(&disk, &other));
-    disk.reset();
-    assert!(rt; same_disk(&disk, &other));
-    let mut buffer = [0u8; 512];
-    buffer[3] = 7;
-    disk.adopt(1, 1, 508, &buffer);
-    assert!(rt; disk.block() == 1);
-    assert!(rt; disk.outcome() == 1);
-    assert!(rt; disk.read(0x3c) == 0);
-    assert!(rt; disk.read(0x3c) == 7);
+    assert!(rt; is_refused_and_reset(&mut disk, &other));
+    assert!(rt; adopts(&mut disk));
+}
+
+/// A disk of one block, which the records of an image fill at its end.
+fn filled(alloc: Global) -> Option<Disk> {
+    let image = read_image(alloc, b"S10701FC01020304F1\nS9030000FC\n", 512).ok()?;
+    Disk::new(alloc, 1, &image).ok()
+}
+
+/// Whether the block has nothing but a last long.
+fn has_last_long(disk: &mut Disk) -> bool {
+    disk.write(0x38, 1);
+    for _long in 0..127 {
+        if disk.read(0x3c) != 0 {
+            return false;
+        }
+    }
+    disk.read(0x3c) == 0x0102_0304 && disk.position() == 0
 }
 
 /// The contents stand at their addresses on the disk.
 #[test]
 fn opens_with_contents(rt: HostRuntime) {
-    let text = b"S10701FC01020304F1\nS9030000FC\n";
-    let image = read_image(rt.alloc(), text, 512).ok();
-    let image = image.expect(&rt, "an image, and ample memory");
-    let disk = Disk::new(rt.alloc(), 1, &image).ok();
-    let mut disk = disk.expect(&rt, "ample memory");
-    disk.write(0x38, 1);
-    for _long in 0..127 {
-        assert!(rt; disk.read(0x3c) == 0);
-    }
-    assert!(rt; disk.read(0x3c) == 0x0102_0304);
-    assert!(rt; disk.position() == 0);
+    let mut disk = filled(rt.alloc()).expect(&rt, "an image, and ample memory");
+    assert!(rt; has_last_long(&mut disk));
 }

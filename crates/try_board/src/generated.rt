@@ -1,9 +1,11 @@
 //! Generated sessions. The programs were worked out by another program, from the published recurrence of PCG32.
 
 use crate::machines::{board_with, run, script_of};
+use mb_board::Board;
 use mb_gen::make_session;
 use mb_model::RunState;
-use vm_guest::Session;
+use std::alloc::Global;
+use vm_guest::{Session, SessionGuest};
 
 /// The program of a guest: its first picked words, how many bytes it has, and a sum over them all. Guests count from 0.
 struct Program {
@@ -78,15 +80,49 @@ fn runs(session: &Session, program: &Program) -> bool {
     }
 }
 
+/// A session of a seed, where there are 1 to 16 guests.
+fn session_of(alloc: Global, seed: u64, guests: u8) -> Option<Session> {
+    if guests == 0 || guests > 16 {
+        return None;
+    }
+    make_session(alloc, seed, guests).ok()
+}
+
 /// How many guests there are, and the bytes of their board.
 static BOARDS: [(u8, u32); 3] = [(1, 196_608), (2, 327_680), (16, 2_162_688)];
+
+/// The vectors of each guest, and its count of laps.
+static VECTORS: [u8; 8] = [0, 0, 0x80, 0, 0, 0, 4, 0];
+
+static COUNT: [u8; 4] = [0, 0, 0, 100];
+
+/// Whether a guest has all that is the same in each.
+fn is_plain(guest: &SessionGuest) -> bool {
+    guest.ram() == 65_536
+        && guest.steps() == 250_000
+        && guest.script().count() == 0
+        && guest.image().chunks().len() == 3
+}
+
+/// Whether there are so many guests, and each has all that is the same in each.
+fn are_plain(session: &Session, count: u8) -> bool {
+    for (number, guest) in session.guests().iter().enumerate() {
+        if !is_plain(guest)
+            || chunk(session, number, 0) != Some((0, VECTORS.as_slice()))
+            || chunk(session, number, 2) != Some((0x7F00, COUNT.as_slice()))
+        {
+            return false;
+        }
+    }
+    session.guests().len() == usize::from(count)
+}
 
 /// Programs of three seeds, and all else: it is the same in each guest of each session. The first program is the same
 /// in sessions of any size.
 #[test]
 fn what_stands_in_a_session(rt: HostRuntime) {
     for program in &PROGRAMS {
-        let session = make_session(rt.alloc(), program.seed.into(), 16).expect(&rt, "ample memory");
+        let session = session_of(rt.alloc(), program.seed, 16).expect(&rt, "ample memory");
         assert!(rt;
             runs(&session, program),
             "guest {} of seed {}",
@@ -94,50 +130,48 @@ fn what_stands_in_a_session(rt: HostRuntime) {
             program.seed
         );
     }
-    let one = make_session(rt.alloc(), 1, 1).expect(&rt, "ample memory");
+    let one = session_of(rt.alloc(), 1, 1).expect(&rt, "ample memory");
     for &(count, board) in &BOARDS {
-        assert!(rt; 1 <= count && count <= 16);
-        let session = make_session(rt.alloc(), 1, count).expect(&rt, "ample memory");
-        assert!(rt; session.board() == board, "{count} guests");
-        assert!(rt; session.slice() == 1_000, "{count} guests");
+        let session = session_of(rt.alloc(), 1, count).expect(&rt, "ample memory");
         assert!(rt;
-            session.guests().len() == usize::from(count),
+            session.board() == board && session.slice() == 1_000,
             "{count} guests"
         );
+        assert!(rt; are_plain(&session, count), "{count} guests");
         assert!(rt;
             chunk(&session, 0, 1) == chunk(&one, 0, 1),
             "{count} guests"
         );
-        for (number, guest) in session.guests().iter().enumerate() {
-            assert!(rt; guest.ram() == 65_536);
-            assert!(rt; guest.steps() == 250_000);
-            assert!(rt; guest.script().count() == 0);
-            assert!(rt; guest.image().chunks().len() == 3);
-            assert!(rt;
-                chunk(&session, number, 0) == Some((0, [0, 0, 0x80, 0, 0, 0, 4, 0].as_slice()))
-            );
-            assert!(rt; chunk(&session, number, 2) == Some((0x7F00, [0, 0, 0, 100].as_slice())));
-        }
     }
 }
 
 /// Further steps, and how many bytes the console has then.
 static LAPS: [(u32, usize); 4] = [(2_001, 0), (1, 1), (2_002, 1), (1, 2)];
 
+/// A board with the image of the first guest of a session.
+fn board_of(alloc: Global, session: &Session) -> Option<Board> {
+    let chunks = [
+        chunk(session, 0, 0)?,
+        chunk(session, 0, 1)?,
+        chunk(session, 0, 2)?,
+    ];
+    board_with(alloc, &chunks).ok()
+}
+
+/// Whether the board runs, with so many bytes on its console.
+fn has_sent(board: &Board, sent: usize) -> bool {
+    let outcome = board.outcome();
+    outcome.console.len() == sent && outcome.state == RunState::Running
+}
+
 /// LEA, the picked instructions, and then the byte; the next one comes 2,003 steps later.
 #[test]
 fn a_lap_sends_a_byte(rt: HostRuntime) {
-    let session = make_session(rt.alloc(), 1, 1).expect(&rt, "ample memory");
-    let chunks = [
-        chunk(&session, 0, 0).expect(&rt, "the vectors"),
-        chunk(&session, 0, 1).expect(&rt, "the program"),
-        chunk(&session, 0, 2).expect(&rt, "the count"),
-    ];
-    let mut board = board_with(rt.alloc(), &chunks).expect(&rt, "ample memory");
+    let session = session_of(rt.alloc(), 1, 1).expect(&rt, "ample memory");
+    let mut board = board_of(rt.alloc(), &session).expect(&rt, "ample memory");
     let script = script_of(rt.alloc(), b"").expect(&rt, "ample memory");
     for &(steps, sent) in &LAPS {
         run(&mut board, &script, steps);
-        assert!(rt; board.outcome().console.len() == sent);
-        assert!(rt; board.outcome().state == RunState::Running);
+        assert!(rt; has_sent(&board, sent));
     }
 }

@@ -7,6 +7,7 @@ ghost use Rattle.vm_shadow.specs.Mapped.{shadowed};
 ghost use Rattle.vm_port.specs.Own.{IsPlaced};
 
 use crate::memory::{Bytes, SPACES};
+use Act::{Fetch, Find, Read, Set, SetMmu, Test, Write};
 use Space::{Super, User};
 use mb_devices::Devices;
 use mb_model::Cpu;
@@ -109,6 +110,24 @@ impl Guest {
         port!(self).set_long(at, value);
     }
 
+    /// Sets a long of its RAM, where there is one.
+    fn has_set(&mut self, at: u32, value: u32) -> bool {
+        if at % 4 != 0 || at >= SIZE {
+            return false;
+        }
+        self.set(at, value);
+        true
+    }
+
+    /// Flushes, where a page is named that there can be.
+    fn has_flushed(&mut self, what: Flush) -> bool {
+        if !names_page(what) {
+            return false;
+        }
+        self.flush(what);
+        true
+    }
+
     fn fetch(&mut self, space: Space, at: u32) -> Option<u16>
         requires { at % 2 ≡ 0 }
     {
@@ -155,59 +174,98 @@ impl Guest {
     }
 }
 
-#[test]
-fn pages_are_put_and_dropped(rt: HostRuntime) {
-    // a changed descriptor counts after a flush
-    let mut guest = Guest::translated(rt.alloc()).expect(&rt, "memory");
-    guest.set(0x5000, 0x55);
-    guest.set(0x6000, 0x66);
-    assert!(rt; guest.read(Super, 0x5000) == Some(0x55));
-    assert!(rt; guest.find(Super, 5) == Some((21, false)));
-    guest.set(PAGES + 20, 0x6001);
-    assert!(rt; guest.read(Super, 0x5000) == Some(0x55));
-    assert!(rt; guest.find(Super, 5) == Some((21, false)));
-    guest.flush(Flush::Page(Super, 5));
-    assert!(rt; guest.find(Super, 5) == None);
-    assert!(rt; guest.read(Super, 0x5000) == Some(0x66));
-    assert!(rt; guest.find(Super, 5) == Some((22, false)));
-    assert!(rt; guest.find(User, 5) == None);
-    // a page that was read is put again as writable
-    let mut guest = Guest::translated(rt.alloc()).expect(&rt, "memory");
-    assert!(rt; guest.read(Super, 0x5000) == Some(0));
-    assert!(rt; guest.find(Super, 5) == Some((21, false)));
-    assert!(rt; guest.read(Super, PAGES + 20) == Some(0x5009));
-    assert!(rt; guest.write(Super, 0x5004, 7) == Some(()));
-    assert!(rt; guest.find(Super, 5) == Some((21, true)));
-    assert!(rt; guest.read(Super, PAGES + 20) == Some(0x5019));
-    assert!(rt; guest.read(Super, 0x5004) == Some(7));
-    // a test drops its page
-    let mut guest = Guest::translated(rt.alloc()).expect(&rt, "memory");
-    for &space in &SPACES {
-        assert!(rt; guest.read(space, 0x5000) == Some(0));
-    }
-    assert!(rt; guest.test(Super, 0x5FFC) == 0x5001);
-    assert!(rt; guest.find(Super, 5) == None);
-    assert!(rt; guest.find(User, 5) == Some((21, false)));
+/// What is done to a guest's bus or asked of it, and what comes of it.
+enum Act {
+    /// Sets a long of its RAM.
+    Set(u32, u32),
+    /// Fetches a word, 0.
+    Fetch(Space, u32),
+    /// Reads a long.
+    Read(Space, u32, u32),
+    /// Writes a long, or is refused.
+    Write(Space, u32, u32, bool),
+    SetMmu(MmuReg, u32),
+    Flush(Flush),
+    /// What a test of a page answers.
+    Test(Space, u32, u32),
+    /// What the shadow has of a page.
+    Find(Space, u32, Option<(u32, bool)>),
 }
 
-#[test]
-fn a_split_page_is_never_put(rt: HostRuntime) {
-    let mut guest = Guest::new(rt.alloc()).expect(&rt, "memory");
+impl Act {
+    /// Whether it comes to what it should.
+    fn holds(&self, guest: &mut Guest) -> bool {
+        match *self {
+            Set(at, value) => guest.has_set(at, value),
+            Fetch(space, at) => at % 2 == 0 && guest.fetch(space, at) == Some(0),
+            Read(space, at, value) => at % 4 == 0 && guest.read(space, at) == Some(value),
+            Write(space, at, value, taken) => {
+                at % 4 == 0 && guest.write(space, at, value).is_some() == taken
+            }
+            SetMmu(which, value) => {
+                guest.set_mmu(which, value);
+                true
+            }
+            Act::Flush(what) => guest.has_flushed(what),
+            Test(space, at, status) => guest.test(space, at) == status,
+            Find(space, page, found) => page < 0x10_0000 && guest.find(space, page) == found,
+        }
+    }
+}
+
+/// Whether all of these come to what they should.
+fn carry_out(guest: &mut Guest, acts: &[Act]) -> bool {
+    for act in acts {
+        if !act.holds(guest) {
+            return false;
+        }
+    }
+    true
+}
+
+/// Lists of acts of guests whose pages are translated to themselves.
+#[rattlefmt::skip]
+static TRANSLATED: [&[Act]; 3] = [
+    // a changed descriptor counts after a flush
+    &[
+        Set(0x5000, 0x55), Set(0x6000, 0x66), Read(Super, 0x5000, 0x55), Find(Super, 5, Some((21, false))),
+        Set(PAGES + 20, 0x6001), Read(Super, 0x5000, 0x55), Find(Super, 5, Some((21, false))),
+        Act::Flush(Flush::Page(Super, 5)), Find(Super, 5, None), Read(Super, 0x5000, 0x66),
+        Find(Super, 5, Some((22, false))), Find(User, 5, None),
+    ],
+    // a page that was read is put again as writable
+    &[
+        Read(Super, 0x5000, 0), Find(Super, 5, Some((21, false))), Read(Super, PAGES + 20, 0x5009),
+        Write(Super, 0x5004, 7, true), Find(Super, 5, Some((21, true))), Read(Super, PAGES + 20, 0x5019),
+        Read(Super, 0x5004, 7),
+    ],
+    // a test drops its page
+    &[
+        Read(User, 0x5000, 0), Read(Super, 0x5000, 0), Test(Super, 0x5FFC, 0x5001), Find(Super, 5, None),
+        Find(User, 5, Some((21, false))),
+    ],
+];
+
+/// Acts of a guest whose translation is off.
+#[rattlefmt::skip]
+static SPLIT: [Act; 13] = [
     // the low 16 MiB, of code alone
-    guest.set_mmu(MmuReg::Itt0, 0xC000);
-    assert!(rt; guest.fetch(Super, 0x5000) == Some(0));
-    assert!(rt; guest.read(Super, 0x5000) == Some(0));
-    assert!(rt; guest.write(Super, 0x5000, 1) == Some(()));
-    assert!(rt; guest.find(Super, 5) == None);
+    SetMmu(MmuReg::Itt0, 0xC000), Fetch(Super, 0x5000), Read(Super, 0x5000, 0), Write(Super, 0x5000, 1, true),
+    Find(Super, 5, None),
     // and of data too, where writes are refused
-    guest.set_mmu(MmuReg::Dtt0, 0xC004);
-    assert!(rt; guest.write(Super, 0x5000, 2) == None);
-    assert!(rt; guest.find(Super, 5) == None);
-    assert!(rt; guest.read(Super, 0x5000) == Some(1));
-    assert!(rt; guest.find(Super, 5) == Some((21, false)));
-    guest.set_mmu(MmuReg::Dtt0, 0xC000);
-    assert!(rt; guest.fetch(Super, 0x5000) == Some(0));
-    assert!(rt; guest.find(Super, 5) == Some((21, true)));
+    SetMmu(MmuReg::Dtt0, 0xC004), Write(Super, 0x5000, 2, false), Find(Super, 5, None), Read(Super, 0x5000, 1),
+    Find(Super, 5, Some((21, false))),
+    SetMmu(MmuReg::Dtt0, 0xC000), Fetch(Super, 0x5000), Find(Super, 5, Some((21, true))),
+];
+
+#[test]
+fn pages_are_put_and_dropped(rt: HostRuntime) {
+    for (number, acts) in TRANSLATED.iter().enumerate() {
+        let mut guest = Guest::translated(rt.alloc()).expect(&rt, "memory");
+        assert!(rt; carry_out(&mut guest, acts), "list {number}");
+    }
+    let mut guest = Guest::new(rt.alloc()).expect(&rt, "memory");
+    assert!(rt; carry_out(&mut guest, &SPLIT), "a split page is never put");
 }
 
 /// What is flushed, and which of the four entries it leaves: page 5 in user and supervisor space, and page 6, which is
@@ -243,71 +301,102 @@ static REGISTERS: [(MmuReg, u32, Option<(u32, bool)>); 8] = [
     (MmuReg::Mmusr, 0xFFFF_FFFF, Some((21, false))),
 ];
 
+/// Pages 5 and 6 are read in both spaces, page 6 as a global one.
+#[rattlefmt::skip]
+static READS: [Act; 5] = [
+    Set(PAGES + 24, 0x6401), Read(User, 0x5000, 0), Read(User, 0x6000, 0), Read(Super, 0x5000, 0),
+    Read(Super, 0x6000, 0),
+];
+
+/// Which of the four entries the shadow has.
+fn has_four(guest: &Guest) -> [bool; 4] {
+    [
+        guest.find(User, 5).is_some(),
+        guest.find(Super, 5).is_some(),
+        guest.find(User, 6).is_some(),
+        guest.find(Super, 6).is_some(),
+    ]
+}
+
+/// Whether the shadow has this of page 5 in both spaces.
+fn has_both(guest: &Guest, found: Option<(u32, bool)>) -> bool {
+    guest.find(User, 5) == found && guest.find(Super, 5) == found
+}
+
 #[test]
 fn flushes_and_written_registers_drop_pages(rt: HostRuntime) {
     for &(what, left) in &FLUSHES {
-        assert!(rt; names_page(what));
         let mut guest = Guest::translated(rt.alloc()).expect(&rt, "memory");
-        guest.set(PAGES + 24, 0x6401);
-        for &space in &SPACES {
-            assert!(rt; guest.read(space, 0x5000) == Some(0));
-            assert!(rt; guest.read(space, 0x6000) == Some(0));
-        }
-        guest.flush(what);
-        let found = [
-            guest.find(User, 5).is_some(),
-            guest.find(Super, 5).is_some(),
-            guest.find(User, 6).is_some(),
-            guest.find(Super, 6).is_some(),
-        ];
-        assert!(rt; found == left, "{what:?}");
+        let flushed = carry_out(&mut guest, &READS) && guest.has_flushed(what);
+        assert!(rt; flushed && has_four(&guest) == left, "{what:?}");
     }
     for &(which, value, left) in &REGISTERS {
         let mut guest = Guest::translated(rt.alloc()).expect(&rt, "memory");
-        for &space in &SPACES {
-            assert!(rt; guest.read(space, 0x5000) == Some(0));
-            assert!(rt; guest.find(space, 5) == Some((21, false)));
-        }
+        assert!(rt; carry_out(&mut guest, &READS) && has_both(&guest, Some((21, false))));
         guest.set_mmu(which, value);
-        for &space in &SPACES {
-            assert!(rt; guest.find(space, 5) == left, "{which:?}");
-        }
+        assert!(rt; has_both(&guest, left), "{which:?}");
     }
 }
+
+/// A step of CMPM.L (A0)+,(A1)+ at $400, where (A0) is the descriptor of its own page. Whether PC and SR are then as
+/// after equal longs.
+fn compares(decoder: &mut Decoder, guest: &mut Guest) -> bool {
+    let mut cpu = Cpu::at_reset(0x8000, 0x400);
+    cpu.regs.a[0] = PAGES + 0x30;
+    cpu.regs.a[1] = 0x3000;
+    let end = guest.step(decoder, &mut cpu);
+    end == StepEnd::Went && cpu.regs.pc == 0x402 && cpu.regs.sr == 0x2704
+}
+
+/// What stands before that step.
+static BEFORE: [Act; 2] = [Set(0x400, 0xB388_4E71), Set(0x3000, 0xC009)];
+
+/// What is found after it.
+static AFTER: [Act; 3] = [
+    Find(Super, 0xC, Some((28, false))),
+    Find(Super, 3, Some((19, false))),
+    Find(Super, 0, Some((16, false))),
+];
 
 #[test]
 fn a_compare_reads_what_its_own_search_marks(rt: HostRuntime) {
     let mut decoder = Decoder::new(rt.alloc()).expect(&rt, "memory");
     let mut guest = Guest::translated(rt.alloc()).expect(&rt, "memory");
-    // CMPM.L (A0)+,(A1)+, where (A0) is the descriptor of its own page
-    guest.set(0x400, 0xB388_4E71);
-    guest.set(0x3000, 0xC009);
-    let mut cpu = Cpu::at_reset(0x8000, 0x400);
-    cpu.regs.a[0] = PAGES + 0x30;
-    cpu.regs.a[1] = 0x3000;
-    assert!(rt; guest.step(&mut decoder, &mut cpu) == StepEnd::Went);
-    assert!(rt; (cpu.regs.pc, cpu.regs.sr) == (0x402, 0x2704));
-    assert!(rt; guest.find(Super, 0xC) == Some((28, false)));
-    assert!(rt; guest.find(Super, 3) == Some((19, false)));
-    assert!(rt; guest.find(Super, 0) == Some((16, false)));
+    assert!(rt; carry_out(&mut guest, &BEFORE));
+    assert!(rt; compares(&mut decoder, &mut guest));
+    assert!(rt; carry_out(&mut guest, &AFTER));
+}
+
+/// Whether 125 pages can be read, each below a page table of its own: 126 tables stand then, one of them of pointers.
+fn fills_area(guest: &mut Guest, space: Space) -> bool {
+    for index in 0..125u32 {
+        if guest.read(space, 0x4_0000 * index) != Some(0) {
+            return false;
+        }
+    }
+    true
+}
+
+/// Frame 16, read alone.
+const FIRST: Option<(u32, bool)> = Some((16, false));
+
+/// Whether the shadow has this of the first page, of the last one and of a further one.
+fn has_three(guest: &Guest, space: Space, wanted: &[Option<(u32, bool)>; 3]) -> bool {
+    guest.find(space, 0) == wanted[0]
+        && guest.find(space, 64 * 124) == wanted[1]
+        && guest.find(space, 64 * 125) == wanted[2]
 }
 
 #[test]
 fn a_full_area_goes_whole(rt: HostRuntime) {
     for &space in &SPACES {
         let mut guest = Guest::translated(rt.alloc()).expect(&rt, "memory");
-        // 126 tables stand then: one of pointers, and 125 of pages
-        for index in 0..125u32 {
-            assert!(rt; guest.read(space, 0x4_0000 * index) == Some(0));
-        }
-        assert!(rt; guest.find(space, 0) == Some((16, false)));
-        assert!(rt; guest.find(space, 64 * 124) == Some((16, false)));
+        assert!(rt; fills_area(&mut guest, space));
+        assert!(rt; has_three(&guest, space, &[FIRST, FIRST, None]));
         assert!(rt; guest.read(space, 0x4_0000 * 125) == Some(0));
-        assert!(rt; guest.find(space, 0) == None);
-        assert!(rt; guest.find(space, 64 * 124) == None);
-        assert!(rt; guest.find(space, 64 * 125) == Some((16, false)));
+        assert!(rt; has_three(&guest, space, &[None, None, FIRST]));
         // what is kept of a page is put again
         assert!(rt; guest.read(space, 0) == Some(0));
-        assert!(rt; guest.find(space, 0) == Some((16, false)));
+        assert!(rt; has_three(&guest, space, &[FIRST, None, FIRST]));
     }
 }

@@ -700,6 +700,42 @@ impl Pair {
         }
     }
 
+    /// Takes turns. Whether they end as they should.
+    fn takes(&mut self, turns: &[(u32, TurnEnd)]) -> bool {
+        for (steps, end) in turns {
+            if self.turn(*steps) != Some(*end) {
+                return false;
+            }
+        }
+        true
+    }
+
+    /// Whether the guest shows and counts what a case says.
+    fn shows(&self, case: &Case) -> bool {
+        first_missing(&self.outcome(), case.shows) == None
+            && self.guest.counts() == case.counts
+            && self.is_counted(case.fills)
+    }
+
+    /// Whether both show the same.
+    fn is_same(&self) -> bool {
+        same(&self.outcome(), &self.bare.outcome())
+    }
+
+    /// Whether the bare board shows what differs, and both show the same where nothing does.
+    fn differs(&self, shown: &[Shown]) -> bool {
+        self.is_same() == shown.is_empty() && first_missing(&self.bare.outcome(), shown) == None
+    }
+
+    /// Whether the guest, and then the bare board, come to what a case says.
+    fn passes(&mut self, case: &Case) -> bool {
+        if !self.takes(case.turns) || !self.shows(case) {
+            return false;
+        }
+        self.run_bare(case.steps);
+        self.differs(case.differs)
+    }
+
     /// Whether all steps are counted, and the board has counted those that it carried out and left, and each time that
     /// one began again.
     fn is_counted(&self, fills: u64) -> bool {
@@ -722,24 +758,7 @@ impl Pair {
 fn check_cases(rt: &impl Abort, alloc: Global, cases: &[Case]) {
     for case in cases {
         let mut pair = Pair::new(alloc, case.chunks, case.script).expect(rt, "ample memory");
-        for (steps, end) in case.turns {
-            assert!(rt; pair.turn(*steps) == Some(*end), "{}", case.name);
-        }
-        assert!(rt;
-            first_missing(&pair.outcome(), case.shows) == None,
-            "{}",
-            case.name
-        );
-        assert!(rt; pair.guest.counts() == case.counts, "{}", case.name);
-        assert!(rt; pair.is_counted(case.fills), "{}", case.name);
-        pair.run_bare(case.steps);
-        let is_same = same(&pair.outcome(), &pair.bare.outcome());
-        assert!(rt; is_same == case.differs.is_empty(), "{}", case.name);
-        assert!(rt;
-            first_missing(&pair.bare.outcome(), case.differs) == None,
-            "{}",
-            case.name
-        );
+        assert!(rt; pair.passes(case), "{}", case.name);
     }
 }
 

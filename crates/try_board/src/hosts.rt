@@ -118,20 +118,51 @@ fn stands(host: &Host, number: u8) -> Option<(RunState, u32)> {
     Some((outcome.state, outcome.steps))
 }
 
-/// Whether each guest is done, and shows what a bare board with its image and script shows after its steps.
+/// Whether a guest is done, and shows what a bare board with its image and script shows after its steps.
+fn is_as_bare(alloc: Global, host: &Host, number: u8, begins: &Begins) -> Option<bool> {
+    let script = script_of(alloc, begins.script)?;
+    let mut bare = board_with(alloc, begins.chunks).ok()?;
+    run(&mut bare, &script, begins.steps);
+    let is_same = same(&outcome_of(host, number)?, &bare.outcome());
+    Some(is_same && stands(host, number) == Some(begins.ends))
+}
+
+/// Whether the host has these guests, and each is done and shows what its bare board shows.
 fn are_as_bare(alloc: Global, host: &Host, guests: &[Begins]) -> Option<bool> {
     let mut number = 0u8;
     for begins in guests {
         number = number.wrapping_add(1);
-        let script = script_of(alloc, begins.script)?;
-        let mut bare = board_with(alloc, begins.chunks).ok()?;
-        run(&mut bare, &script, begins.steps);
-        let is_same = same(&outcome_of(host, number)?, &bare.outcome());
-        if !is_same || stands(host, number) != Some(begins.ends) {
+        if !is_as_bare(alloc, host, number, begins)? {
             return Some(false);
         }
     }
     Some(number == host.guest_count())
+}
+
+/// A session of these guests on the board on which three fit.
+fn host_of(alloc: Global, slice: u32, guests: &[Begins]) -> Option<Host> {
+    let session = session_of(alloc, FITS, slice, guests)?;
+    Host::prepare(alloc, session).ok()
+}
+
+/// Goes round until all guests are done.
+fn run_rounds(host: &mut Host) {
+    host.run(&mut Native::new());
+}
+
+/// Whether all guests are as their bare boards after a run, and after a second one.
+fn goes_as_bare(alloc: Global, slice: u32, guests: &[Begins]) -> Option<bool> {
+    let mut host = host_of(alloc, slice, guests)?;
+    run_rounds(&mut host);
+    let once = are_as_bare(alloc, &host, guests)?;
+    run_rounds(&mut host);
+    Some(once && are_as_bare(alloc, &host, guests)?)
+}
+
+/// Why three guests are refused on the smaller board.
+fn refusal(alloc: Global) -> Option<OpenFault> {
+    let session = session_of(alloc, TOO_SMALL, 1, &TOO_MANY)?;
+    Host::prepare(alloc, session).err()
 }
 
 /// Three guests.
@@ -154,25 +185,14 @@ static SESSIONS: [(u32, &[Begins]); 5] = [
 #[test]
 fn each_guest_shows_what_its_own_board_shows(rt: HostRuntime) {
     for (number, &(slice, guests)) in SESSIONS.iter().enumerate() {
-        let session = session_of(rt.alloc(), FITS, slice, guests).expect(&rt, "ample memory");
-        let mut host = Host::prepare(rt.alloc(), session).expect(&rt, "it fits");
-        host.run(&mut Native::new());
-        assert!(rt;
-            are_as_bare(rt.alloc(), &host, guests) == Some(true),
-            "session {number}"
-        );
-        host.run(&mut Native::new());
-        assert!(rt;
-            are_as_bare(rt.alloc(), &host, guests) == Some(true),
-            "session {number}"
-        );
+        let same = goes_as_bare(rt.alloc(), slice, guests);
+        assert!(rt; same == Some(true), "session {number}");
     }
-    let session = session_of(rt.alloc(), TOO_SMALL, 1, &TOO_MANY).expect(&rt, "ample memory");
     let refused = OpenFault::Oversize {
         need: FITS,
         have: TOO_SMALL,
     };
-    assert!(rt; Host::prepare(rt.alloc(), session).err() == Some(refused));
+    assert!(rt; refusal(rt.alloc()) == Some(refused));
 }
 
 #[rattlefmt::skip]
@@ -186,16 +206,41 @@ static ORDER: [Turn; 7] = [
     Turn { guest: 2, steps: 4_294_967_295 },
 ];
 
+/// How the three guests stand after those turns.
+#[rattlefmt::skip]
+static TURNED: [(RunState, u32); 3] = [(RunState::Running, 99), (RunState::Halted, 16_385), (RunState::Running, 0)];
+
+/// Carries out those turns, where there are three guests.
+fn run_turns(host: &mut Host) -> bool {
+    if host.guest_count() != 3 {
+        return false;
+    }
+    host.run_order(&ORDER, &mut Native::new());
+    true
+}
+
+/// Whether the guests stand so.
+fn stand(host: &Host, wanted: &[(RunState, u32)]) -> bool {
+    let mut number = 0u8;
+    for as_wanted in wanted {
+        number = number.wrapping_add(1);
+        if stands(host, number) != Some(*as_wanted) {
+            return false;
+        }
+    }
+    true
+}
+
+/// Whether the guests stand as they should after those turns, and each shows what its bare board shows after rounds.
+fn goes_by_turns(alloc: Global, host: &mut Host) -> Option<bool> {
+    let turned = run_turns(host) && stand(host, &TURNED);
+    run_rounds(host);
+    Some(turned && are_as_bare(alloc, host, &THREE)?)
+}
+
 /// Turns of any guest in any order, and then rounds: none goes past what its guest has left.
 #[test]
 fn turns_come_before_rounds(rt: HostRuntime) {
-    let session = session_of(rt.alloc(), FITS, 1000, &THREE).expect(&rt, "ample memory");
-    let mut host = Host::prepare(rt.alloc(), session).expect(&rt, "it fits");
-    assert!(rt; host.guest_count() == 3);
-    host.run_order(&ORDER, &mut Native::new());
-    assert!(rt; stands(&host, 1) == Some((RunState::Running, 99)));
-    assert!(rt; stands(&host, 2) == Some((RunState::Halted, 16_385)));
-    assert!(rt; stands(&host, 3) == Some((RunState::Running, 0)));
-    host.run(&mut Native::new());
-    assert!(rt; are_as_bare(rt.alloc(), &host, &THREE) == Some(true));
+    let mut host = host_of(rt.alloc(), 1000, &THREE).expect(&rt, "ample memory");
+    assert!(rt; goes_by_turns(rt.alloc(), &mut host) == Some(true));
 }

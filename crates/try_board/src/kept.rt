@@ -9,7 +9,7 @@ use mb_model::Kept;
 use mb_port::{Flush, Space};
 
 /// A change of what is kept, or a look at it: a side, a space and a page, with the frame that is found.
-#[derive(Clone, Copy, Debug)]
+#[derive(Clone, Copy)]
 enum Act {
     /// Side, space, page and frame.
     Fill(bool, Space, u32, u32),

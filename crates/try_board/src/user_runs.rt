@@ -51,20 +51,30 @@ static COUNTS: [Runs; 4] = [
     },
 ];
 
+/// Takes the runs of a case. Whether each is counted as it says.
+fn counts(board: &mut Board, case: &Runs) -> bool {
+    let mut native = Native::new();
+    for (limit, numbers, began) in case.runs {
+        let end = run(board, *limit, &mut native);
+        let counted = (native.retired(), native.exceptions(), native.trail());
+        if end != Some(Counted) || counted != *numbers || at_last_step(board) != *began {
+            return false;
+        }
+    }
+    board.outcome().steps == 0
+}
+
+/// The PC and D3 at the beginning of the last step.
+fn at_last_step(board: &Board) -> (u32, u32) {
+    let before = board.before();
+    (before.pc, before.d[3])
+}
+
 #[test]
 fn runs_are_counted_one_behind_the_other(rt: HostRuntime) {
     for case in &COUNTS {
         let mut board = board_at(rt.alloc(), case.code, 0, 0).expect(&rt, "ample memory");
-        let mut native = Native::new();
-        for (limit, numbers, (pc, d3)) in case.runs {
-            let end = run(&mut board, *limit, &mut native);
-            assert!(rt; end == Some(Counted), "{}", case.name);
-            let counted = (native.retired(), native.exceptions(), native.trail());
-            assert!(rt; counted == *numbers, "{}", case.name);
-            assert!(rt; board.before().pc == *pc, "{}", case.name);
-            assert!(rt; board.before().d[3] == *d3, "{}", case.name);
-            assert!(rt; board.outcome().steps == 0, "{}", case.name);
-        }
+        assert!(rt; counts(&mut board, case), "{}", case.name);
     }
 }
 
@@ -143,37 +153,32 @@ static ENDINGS: [Ending; 16] = [
     },
 ];
 
+/// Whether the timer has this period from now on.
+fn set_period(board: &mut Board, steps: u32) -> bool {
+    let period = Piece {
+        at: 0xFFF0_0010,
+        len: 4,
+    };
+    board.write(Space::Super, period, steps) == Ok(())
+}
+
+/// Takes the run of a case. Whether it ends as it says.
+fn ends(board: &mut Board, case: &Ending) -> bool {
+    let mut native = Native::new();
+    let end = run(board, 10, &mut native);
+    end == Some(case.end)
+        && state_of(board) == case.state
+        && (native.retired(), native.exceptions()) == case.counted
+        && at_last_step(board).0 == case.pc
+        && (board.cpu().regs.is_supervisor() || !matches!(case.end, Exit(_)))
+}
+
 #[test]
 fn a_run_ends_by_its_last_step(rt: HostRuntime) {
     for case in &ENDINGS {
-        let mut board = board_at(rt.alloc(), case.code, case.sr, case.isp).expect(
-            &rt,
-            "ample memory",
-        );
-        let period = Piece {
-            at: 0xFFF0_0010,
-            len: 4,
-        };
-        assert!(rt;
-            board.write(Space::Super, period, case.period) == Ok(()),
-            "{}",
-            case.name
-        );
-        let mut native = Native::new();
-        let end = run(&mut board, 10, &mut native);
-        assert!(rt; end == Some(case.end), "{}", case.name);
-        assert!(rt; state_of(&board) == case.state, "{}", case.name);
-        assert!(rt;
-            (native.retired(), native.exceptions()) == case.counted,
-            "{}",
-            case.name
-        );
-        assert!(rt; board.before().pc == case.pc, "{}", case.name);
-        let is_exit = matches!(case.end, Exit(_));
-        assert!(rt;
-            board.cpu().regs.is_supervisor() || !is_exit,
-            "{}",
-            case.name
-        );
+        let board = board_at(rt.alloc(), case.code, case.sr, case.isp);
+        let mut board = board.expect(&rt, "ample memory");
+        assert!(rt; set_period(&mut board, case.period), "{}", case.name);
+        assert!(rt; ends(&mut board, case), "{}", case.name);
     }
 }

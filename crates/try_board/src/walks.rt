@@ -98,24 +98,48 @@ static WALKS: [Walk; 20] = [
 /// The tables' descriptors afterwards: each is used.
 static USED_TABLES: [(u32, u32); 2] = [(0x8004, 0x0000_820A), (0x8204, 0x0000_840B)];
 
+/// Whether a search from the root at $8000 finds what it should, and leaves what it should.
+fn finds(
+    bytes: &mut Bytes,
+    after: &Bytes,
+    space: Space,
+    at: u32,
+    write: bool,
+    big: bool,
+    wanted: Found,
+) -> bool {
+    search(bytes, 0x8000, space, at, write, big) == wanted && bytes.memory == after.memory
+}
+
+/// Memory before the search of a walk.
+fn before_walk(alloc: Global, longs: &[(u32, u32)]) -> Option<Bytes> {
+    let mut bytes = memory(alloc, &TABLES)?;
+    set(&mut bytes, longs);
+    Some(bytes)
+}
+
+/// Memory after it.
+fn after_walk(alloc: Global, longs: &[(u32, u32)], left: &[(u32, u32)]) -> Option<Bytes> {
+    let mut bytes = before_walk(alloc, longs)?;
+    set(&mut bytes, &USED_TABLES);
+    set(&mut bytes, left);
+    Some(bytes)
+}
+
 #[test]
 fn walks_by_hand(rt: HostRuntime) {
     for &(space, write, longs, left, wanted) in &WALKS {
-        let mut bytes = memory(rt.alloc(), &TABLES).expect(&rt, "memory");
-        set(&mut bytes, longs);
-        let mut after = memory(rt.alloc(), &TABLES).expect(&rt, "memory");
-        set(&mut after, longs);
-        set(&mut after, &USED_TABLES);
-        set(&mut after, left);
-        assert!(rt; search(&mut bytes, 0x8000, space, AT, write, false) == wanted);
-        assert!(rt; bytes.memory == after.memory, "after {wanted:?}");
+        let mut bytes = before_walk(rt.alloc(), longs).expect(&rt, "memory");
+        let after = after_walk(rt.alloc(), longs, left).expect(&rt, "memory");
+        let found = finds(&mut bytes, &after, space, AT, write, false, wanted);
+        assert!(rt; found, "{wanted:?}");
     }
     // a root that is its own table, and one outside memory
     let mut bytes = memory(rt.alloc(), &[(0x8000, 0x0000_8002)]).expect(&rt, "memory");
-    assert!(rt; search(&mut bytes, 0x8000, Super, 0, false, false) == Found::Invalid);
-    let wanted = memory(rt.alloc(), &[(0x8000, 0x0000_800A)]).expect(&rt, "memory");
-    assert!(rt; bytes.memory == wanted.memory);
-    assert!(rt; search(&mut bytes, 0x10_0000, Super, 0, false, false) == Found::BusError);
+    let after = memory(rt.alloc(), &[(0x8000, 0x0000_800A)]).expect(&rt, "memory");
+    assert!(rt; finds(&mut bytes, &after, Super, 0, false, false, Found::Invalid));
+    let outside = search(&mut bytes, 0x10_0000, Super, 0, false, false);
+    assert!(rt; outside == Found::BusError);
 }
 
 /// An address, whether pages have 8 KiB, the page's descriptor, the page, its frame and MMUSR, where one is found, and
@@ -135,23 +159,36 @@ static BIG_TABLES: [(u32, u32); 2] = [(0x8000, 0x0000_8202), (0x8200, 0x0000_840
 
 static USED_BIG_TABLES: [(u32, u32); 2] = [(0x8000, 0x0000_820A), (0x8200, 0x0000_840A)];
 
+/// What is found of a page, its frame and MMUSR.
+fn found_of(found: Option<(u32, u32, u32)>) -> Found {
+    match found {
+        Some((page, frame, status)) => {
+            let kept = Kept {
+                space: Super,
+                page,
+                frame,
+                ..KEPT
+            };
+            Found::Entry(kept, status)
+        }
+        None => Found::Invalid,
+    }
+}
+
+/// Memory of tables and a page's descriptor.
+fn big_memory(alloc: Global, tables: &[(u32, u32)], long: u32) -> Option<Bytes> {
+    let mut bytes = memory(alloc, tables)?;
+    set(&mut bytes, &[(0x8404, long)]);
+    Some(bytes)
+}
+
 #[test]
-#[rattlefmt::skip]
 fn walks_through_pages_of_8_kib(rt: HostRuntime) {
     for &(at, big, long, found, left) in &BIG_WALKS {
-        let mut bytes = memory(rt.alloc(), &BIG_TABLES).expect(&rt, "memory");
-        set(&mut bytes, &[(0x8404, long)]);
-        let mut after = memory(rt.alloc(), &USED_BIG_TABLES).expect(&rt, "memory");
-        set(&mut after, &[(0x8404, left)]);
-        let wanted = match found {
-            Some((page, frame, status)) => {
-                let kept = Kept { space: Super, page, frame, w: false, s: false, g: false, m: false };
-                Found::Entry(kept, status)
-            }
-            None => Found::Invalid,
-        };
-        assert!(rt; search(&mut bytes, 0x8000, Super, at, false, big) == wanted);
-        assert!(rt; bytes.memory == after.memory, "after {wanted:?}");
+        let mut bytes = big_memory(rt.alloc(), &BIG_TABLES, long).expect(&rt, "memory");
+        let after = big_memory(rt.alloc(), &USED_BIG_TABLES, left).expect(&rt, "memory");
+        let found = finds(&mut bytes, &after, Super, at, false, big, found_of(found));
+        assert!(rt; found, "at {at:x}");
     }
 }
 
@@ -172,23 +209,27 @@ static TRANSPARENT: [(u32, u32, Space, u32, Option<bool>); 12] = [
     (0x0100_C000, 0x00FF_C004, User, 0x0100_0000, Some(false)),
 ];
 
+/// Whether two descriptors of tables have their parts.
+fn tables_have_parts() -> bool {
+    let table = TableDescriptor::of(0x0000_820E);
+    table.resident && table.protected && table.used && !TableDescriptor::of(0x0000_8201).resident
+}
+
+/// Whether two descriptors of pages have their parts.
+fn pages_have_parts() -> bool {
+    let page = PageDescriptor::of(0x0012_3493);
+    (page.resident && !page.indirect && !page.protected && !page.used)
+        && (page.modified && page.supervisor && page.global && page.frame == 0x123)
+        && PageDescriptor::of(0x0000_8502).indirect
+}
+
 #[test]
 #[rattlefmt::skip]
 fn registers_descriptors_and_results_by_hand(rt: HostRuntime) {
     for &(tt0, tt1, space, at, wanted) in &TRANSPARENT {
         assert!(rt; transparent(tt0, tt1, space, at) == wanted, "{tt0:x} {tt1:x} at {at:x}");
     }
-    let table = TableDescriptor::of(0x0000_820E);
-    assert!(rt; (table.resident, table.protected, table.used) == (true, true, true));
-    assert!(rt; !TableDescriptor::of(0x0000_8201).resident);
-    let page = PageDescriptor::of(0x0012_3493);
-    assert!(rt;
-        (page.resident, page.indirect, page.protected, page.used) == (true, false, false, false)
-    );
-    assert!(rt;
-        (page.modified, page.supervisor, page.global, page.frame) == (true, true, true, 0x123)
-    );
-    assert!(rt; PageDescriptor::of(0x0000_8502).indirect);
+    assert!(rt; tables_have_parts() && pages_have_parts());
     assert!(rt; Found::Entry(KEPT, 0x0012_3001).status() == 0x0012_3001);
-    assert!(rt; (Found::Invalid.status(), Found::BusError.status()) == (0, 0x800));
+    assert!(rt; Found::Invalid.status() == 0 && Found::BusError.status() == 0x800);
 }

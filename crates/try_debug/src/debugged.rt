@@ -220,58 +220,101 @@ impl Session {
     }
 }
 
+/// A sink with so much room.
+fn sink(alloc: Global, room: usize) -> Option<MemSink> {
+    MemSink::new(alloc, room, Vec::new(alloc)).ok()
+}
+
+/// Whether commands print what they should.
+fn prints(alloc: Global, session: &mut Session, round: &Round) -> Option<bool> {
+    let (commands, bound, room, prints) = *round;
+    let mut out = sink(alloc, room)?;
+    let fails = room > 0 && room == prints.len();
+    let done = session.run(alloc, commands, bound, &mut out)?;
+    Some(done.is_err() == fails && out.bytes() == prints)
+}
+
 #[test]
 fn commands_print(rt: HostRuntime) {
     for &(contents, rounds) in &CASES {
-        let alloc = rt.alloc();
-        let mut session = session_of(alloc, contents).expect(&rt, "memory");
-        for &(commands, bound, room, prints) in rounds {
-            let mut out = MemSink::new(alloc, room, Vec::new(alloc)).expect(&rt, "memory");
-            let done = session.run(alloc, commands, bound, &mut out);
-            let fails = room > 0 && room == prints.len();
-            assert!(rt;
-                done == Some(if fails { Err(SinkFault) } else { Ok(()) }),
-                "{commands:?}"
-            );
-            assert!(rt; out.bytes() == prints, "{commands:?}");
+        let mut session = session_of(rt.alloc(), contents).expect(&rt, "memory");
+        for round in rounds {
+            let printed = prints(rt.alloc(), &mut session, round);
+            let commands = round.0;
+            assert!(rt; printed == Some(true), "{commands:?}");
         }
     }
 }
 
 /// What is printed behind the 64 break points, before the entries.
-static BEHIND_ALL: [&str; 10] = [
-    "full",
-    "break 0000003F",
-    "clear 00000005",
-    "break 00000005",
-    "clear 00000000",
-    "break 00000418",
-    "at 5 pc 00000418 running break",
-    "clear 00000418",
-    "at 774 pc 0000041C running",
-    "kept 256",
-];
+const BEHIND_ALL: &[u8] = b"full\nbreak 0000003F\nclear 00000005\nbreak 00000005\nclear 00000000\n\
+break 00000418\nat 5 pc 00000418 running break\nclear 00000418\nat 774 pc 0000041C running\nkept 256\n";
+
+/// Puts a break point at each address below 64. Whether each is put.
+fn put_breaks(alloc: Global, session: &mut Session, out: &mut MemSink) -> Option<bool> {
+    for at in 0..64u32 {
+        let line = format!(in alloc; "break {at:X}").ok()?;
+        if session.run(alloc, line.as_bytes(), 0, out)?.is_err() {
+            return Some(false);
+        }
+    }
+    Some(true)
+}
+
+/// Commands behind those, of which the last tells what is kept.
+const FURTHER: &[u8] =
+    b"break 40\nbreak 3F\nclear 5\nbreak 5\nclear 0\nbreak 418\ngo 9\nclear 418\ngo 769\nkept\n";
+
+/// What all of them print.
+fn printed(alloc: Global) -> Option<MemSink> {
+    let mut out = sink(alloc, AMPLE)?;
+    let mut session = session_of(alloc, TRANSLATES)?;
+    let done = put_breaks(alloc, &mut session, &mut out)?
+        && session.run(alloc, FURTHER, 1000, &mut out)?.is_ok();
+    if !done {
+        return None;
+    }
+    Some(out)
+}
+
+/// What stands in a text behind its first lines.
+fn behind_lines(text: &[u8], count: u32) -> &[u8] {
+    let mut text = text;
+    for _ in 0..count {
+        text = match text.iter().position(|byte| *byte == b'\n') {
+            Some(place) => text.get(place.saturating_add(1)..).unwrap_or(b""),
+            None => b"",
+        };
+    }
+    text
+}
+
+/// A number in five hexadecimal digits.
+fn five(alloc: Global, number: u32) -> Option<String> {
+    format!(in alloc; "{number:05X}").ok()
+}
+
+/// What stands in a text behind the line that tells of a page.
+fn behind_page<'a>(alloc: Global, text: &'a [u8], page: u32) -> Option<&'a [u8]> {
+    let (number, frame) = (five(alloc, page)?, five(alloc, page % 16)?);
+    let rest = text.strip_prefix(b"S ")?.strip_prefix(number.as_bytes())?;
+    let rest = rest.strip_prefix(b" ")?.strip_prefix(frame.as_bytes())?;
+    rest.strip_prefix(b" 0\n")
+}
+
+/// Whether a text tells of 256 pages, and of nothing else.
+fn is_kept_pages(alloc: Global, text: &[u8]) -> Option<bool> {
+    let mut text = text;
+    for page in 0..256u32 {
+        text = behind_page(alloc, text, page)?;
+    }
+    Some(text.is_empty())
+}
 
 #[test]
 fn all_break_points_and_all_that_is_kept(rt: HostRuntime) {
-    let alloc = rt.alloc();
-    let mut out = MemSink::new(alloc, AMPLE, Vec::new(alloc)).expect(&rt, "memory");
-    let mut session = session_of(alloc, TRANSLATES).expect(&rt, "memory");
-    for at in 0..64u32 {
-        let line = format!(in alloc; "break {at:X}").expect(&rt, "memory");
-        assert!(rt; session.run(alloc, line.as_bytes(), 0, &mut out) == Some(Ok(())));
-    }
-    let commands =
-        b"break 40\nbreak 3F\nclear 5\nbreak 5\nclear 0\nbreak 418\ngo 9\nclear 418\ngo 769\nkept\n";
-    assert!(rt; session.run(alloc, commands, 1000, &mut out) == Some(Ok(())));
-    let mut lines = out.bytes().split(|byte| *byte == b'\n').skip(64);
-    for &line in &BEHIND_ALL {
-        assert!(rt; lines.next() == Some(line.as_bytes()), "{line}");
-    }
-    for page in 0..256u32 {
-        let frame = page % 16;
-        let line = format!(in alloc; "S {page:05X} {frame:05X} 0").expect(&rt, "memory");
-        assert!(rt; lines.next() == Some(line.as_bytes()), "{page}");
-    }
-    assert!(rt; lines.next() == Some(b"".as_slice()) && lines.next() == None);
+    let out = printed(rt.alloc()).expect(&rt, "memory");
+    let rest = behind_lines(out.bytes(), 64).strip_prefix(BEHIND_ALL);
+    let pages = rest.expect(&rt, "what stands behind the break points");
+    assert!(rt; is_kept_pages(rt.alloc(), pages) == Some(true));
 }

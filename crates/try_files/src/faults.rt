@@ -2,7 +2,7 @@
 
 use mb_script::{LineFault, LineWhy};
 use mb_srec::{ImageFault, RecordWhy};
-use std::test::Fail;
+use std::alloc::Global;
 
 #[rattlefmt::skip]
 static OF_IMAGES: [(ImageFault, &str); 9] = [
@@ -27,13 +27,30 @@ static OF_SCRIPTS: [(LineFault, &str); 6] = [
     (LineFault::Line { number: 5, why: LineWhy::Many }, "line 5: many"),
 ];
 
+/// Whether a fault of an image prints so.
+fn prints_image(alloc: Global, fault: ImageFault, want: &str) -> Option<bool> {
+    let text = fault.to_string(alloc).ok()?;
+    Some(text.as_str() == want)
+}
+
+/// Whether a fault of a script prints so.
+fn prints_script(alloc: Global, fault: LineFault, want: &str) -> Option<bool> {
+    let text = fault.to_string(alloc).ok()?;
+    Some(text.as_str() == want)
+}
+
 #[test]
-fn prints_faults(rt: HostRuntime) -> Result<(), Fail> {
+fn prints_faults(rt: HostRuntime) {
     for &(fault, want) in &OF_IMAGES {
-        assert!(rt; fault.to_string(rt.alloc())?.as_str() == want, "{want}");
+        assert!(rt;
+            prints_image(rt.alloc(), fault, want) == Some(true),
+            "{want}"
+        );
     }
     for &(fault, want) in &OF_SCRIPTS {
-        assert!(rt; fault.to_string(rt.alloc())?.as_str() == want, "{want}");
+        assert!(rt;
+            prints_script(rt.alloc(), fault, want) == Some(true),
+            "{want}"
+        );
     }
-    Ok(())
 }

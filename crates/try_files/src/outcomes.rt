@@ -75,33 +75,56 @@ static ROOMS: [(usize, Result<(), SinkFault>); 3] = [
     (667, Ok(())),
 ];
 
-/// A program that prints one character and switches the machine off, after its three steps.
-#[test]
-fn writes_a_program_that_ended(rt: HostRuntime) {
-    let mut ram = zeros(rt.alloc(), 0x1_0000).expect(&rt, "ample memory");
-    assert!(rt; ram.len() == 0x1_0000);
+/// The program, which prints one character and switches the machine off.
+static PROGRAM: [u8; 18] = [
+    0x70, 0x41, 0x13, 0xc0, 0xff, 0xf0, 0, 0, 0x23, 0xfc, 0, 0, 0, 1, 0xff, 0xf0, 0, 0x20,
+];
+
+/// RAM with the program behind its vectors.
+fn program_ram(alloc: Global) -> Option<Vec<u8>> {
+    let mut ram = zeros(alloc, 0x1_0000)?;
+    if ram.len() != 0x1_0000 {
+        return None;
+    }
     ram[..8].copy_from_slice(&[0, 1, 0, 0, 0, 0, 4, 0]);
-    ram[0x400..0x412].copy_from_slice(&[
-        0x70, 0x41, 0x13, 0xc0, 0xff, 0xf0, 0, 0, 0x23, 0xfc, 0, 0, 0, 1, 0xff, 0xf0, 0, 0x20,
-    ]);
+    ram[0x400..0x412].copy_from_slice(&PROGRAM);
+    Some(ram)
+}
+
+/// A sink with so much room.
+fn sink(alloc: Global, room: usize) -> Option<MemSink> {
+    MemSink::new(alloc, room, Vec::new(alloc)).ok()
+}
+
+/// Whether the text of the program's end is written, as far as there is room.
+fn is_written(alloc: Global, ram: &[u8], room: usize, want: Result<(), SinkFault>) -> Option<bool> {
+    if ram.len() != 0x1_0000 {
+        return None;
+    }
     let mut cpu = Cpu::at_reset(0x1_0000, 0x412);
     cpu.regs.d[0] = 0x41;
     let outcome = Outcome {
         console: b"A",
         steps: 3,
         state: RunState::Off,
-        ram: &ram,
+        ram,
         ..nothing(&cpu, &NO_MMU)
     };
-    let text = WORKED.as_bytes();
-    assert!(rt; text.len() == 667);
+    let mut out = sink(alloc, room)?;
+    let written = write_outcome(1, &outcome, &mut out) == want;
+    Some(written && Some(out.bytes()) == WORKED.as_bytes().get(..room.min(667)))
+}
+
+/// The machine's outcome after its three steps.
+#[test]
+fn writes_a_program_that_ended(rt: HostRuntime) {
+    let ram = program_ram(rt.alloc()).expect(&rt, "ample memory");
+    assert!(rt; WORKED.len() == 667);
     for &(room, want) in &ROOMS {
-        let mut out = MemSink::new(rt.alloc(), room, Vec::new(rt.alloc())).expect(
-            &rt,
-            "ample memory",
+        assert!(rt;
+            is_written(rt.alloc(), &ram, room, want) == Some(true),
+            "room {room}"
         );
-        assert!(rt; write_outcome(1, &outcome, &mut out) == want, "room {room}");
-        assert!(rt; out.bytes() == &text[..room.min(667)], "room {room}");
     }
 }
 
@@ -118,32 +141,14 @@ CTRL 00000001\nSTATUS 00000007\nPERIOD 00000040\nCOUNT 00000041\nPENDING 0000000
 00000030 F0000000000000000000000000000000\n\
 end\n";
 
-/// Each digit's place, rows of the console, and lines of RAM that are left out.
-#[test]
-fn writes_every_place(rt: HostRuntime) {
-    let mut console = [0u8; 33];
-    for i in 0..33u8 {
-        console[i as usize] = i;
-    }
-    console[31] = 0xff;
-    let mut ram = [0u8; 0x40];
-    ram[0x1f] = 1;
-    ram[0x30] = 0xf0;
+/// Each digit's place, of the registers and of those of translation.
+#[rattlefmt::skip]
+fn full_processor() -> Cpu {
     let mut cpu = Cpu::at_reset(0xffff_fffe, 0);
-    let values = [
-        1,
-        0x20,
-        0x300,
-        0x4000,
-        0x5_0000,
-        0x60_0000,
-        0x700_0000,
-        0x89ab_cdef,
-    ];
-    let d = &mut cpu.regs.d;
-    *d = values;
-    let a = &mut cpu.regs.a;
-    *a = [0x10, 0x11, 0x12, 0x13, 0x14, 0x15, 0x16];
+    let d = [1, 0x20, 0x300, 0x4000, 0x5_0000, 0x60_0000, 0x700_0000, 0x89ab_cdef];
+    let a = [0x10, 0x11, 0x12, 0x13, 0x14, 0x15, 0x16];
+    cpu.regs.d = d;
+    cpu.regs.a = a;
     cpu.regs.usp = 0x20;
     cpu.regs.msp = 0x21;
     cpu.regs.sr = 0x1f;
@@ -151,20 +156,39 @@ fn writes_every_place(rt: HostRuntime) {
     cpu.sfc = 1;
     cpu.dfc = 5;
     cpu.cacr = 0x8000_8000;
-    let mmu = Mmu {
-        tc: 0x8000,
-        itt0: 0x31,
-        itt1: 0x32,
-        dtt0: 0x33,
-        dtt1: 0x34,
-        mmusr: 0x35,
-        urp: 0x36,
-        srp: 0x37,
-    };
+    cpu
+}
+
+const FULL_MMU: Mmu = Mmu {
+    tc: 0x8000,
+    itt0: 0x31,
+    itt1: 0x32,
+    dtt0: 0x33,
+    dtt1: 0x34,
+    mmusr: 0x35,
+    urp: 0x36,
+    srp: 0x37,
+};
+
+/// A byte more than a row of the console has.
+#[rattlefmt::skip]
+static CONSOLE: [u8; 33] = [
+    0, 1, 2, 3, 4, 5, 6, 7, 8, 9, 10, 11, 12, 13, 14, 15, 16, 17, 18, 19, 20, 21, 22, 23, 24, 25, 26, 27, 28, 29, 30,
+    0xff, 32,
+];
+
+/// Four lines of RAM, of which two are left out.
+static LINES: [u8; 0x40] = [
+    0, 0, 0, 0, 0, 0, 0, 0, 0, 0, 0, 0, 0, 0, 0, 0, 0, 0, 0, 0, 0, 0, 0, 0, 0, 0, 0, 0, 0, 0, 0, 1,
+    0, 0, 0, 0, 0, 0, 0, 0, 0, 0, 0, 0, 0, 0, 0, 0, 0xf0, 0, 0, 0, 0, 0, 0, 0, 0, 0, 0, 0, 0, 0, 0,
+    0,
+];
+
+/// The text of an outcome in which each digit's place is filled.
+fn full_text(alloc: Global) -> Option<MemSink> {
+    let cpu = full_processor();
     let outcome = Outcome {
-        cpu: &cpu,
-        mmu: &mmu,
-        console: &console,
+        console: &CONSOLE,
         lost: u64::MAX,
         queue: queue_of(&[13, 10, 127]),
         ctrl: 1,
@@ -173,11 +197,18 @@ fn writes_every_place(rt: HostRuntime) {
         count: 0x41,
         pending: 1,
         steps: 4_294_967_295,
-        state: RunState::Running,
-        ram: &ram,
+        ram: &LINES,
+        ..nothing(&cpu, &FULL_MMU)
     };
-    let mut out = MemSink::new(rt.alloc(), 1_000, Vec::new(rt.alloc())).expect(&rt, "ample memory");
-    assert!(rt; write_outcome(16, &outcome, &mut out) == Ok(()));
+    let mut out = sink(alloc, 1_000)?;
+    write_outcome(16, &outcome, &mut out).ok()?;
+    Some(out)
+}
+
+/// Each digit's place, rows of the console, and lines of RAM that are left out.
+#[test]
+fn writes_every_place(rt: HostRuntime) {
+    let out = full_text(rt.alloc()).expect(&rt, "ample memory");
     assert!(rt; out.bytes() == FULL.as_bytes());
 }
 
@@ -186,24 +217,33 @@ static STATES: [(RunState, &str); 2] = [
     (RunState::Halted, "halted"),
 ];
 
-/// The other states, of a machine that has nothing to show.
+/// The text of a machine that has nothing to show but its state.
+fn text_of(alloc: Global, state: RunState) -> Option<MemSink> {
+    let cpu = Cpu::at_reset(0, 0);
+    let outcome = Outcome {
+        state,
+        ..nothing(&cpu, &NO_MMU)
+    };
+    let mut out = sink(alloc, 1_000)?;
+    write_outcome(2, &outcome, &mut out).ok()?;
+    Some(out)
+}
+
+/// Whether a text tells of a state, and ends.
+fn tells(text: &[u8], state: &str) -> bool {
+    match text.strip_prefix(b"guest 2\nstate ") {
+        Some(rest) => rest.starts_with(state.as_bytes())
+            && rest.ends_with(b"\nPENDING 00000000\nend\n"),
+        None => false,
+    }
+}
+
+/// The other states.
 #[test]
 fn writes_states(rt: HostRuntime) {
-    let cpu = Cpu::at_reset(0, 0);
     for &(state, want) in &STATES {
-        let outcome = Outcome {
-            state,
-            ..nothing(&cpu, &NO_MMU)
-        };
-        let mut out = MemSink::new(rt.alloc(), 1_000, Vec::new(rt.alloc())).expect(
-            &rt,
-            "ample memory",
-        );
-        assert!(rt; write_outcome(2, &outcome, &mut out) == Ok(()), "{want}");
-        let text = out.bytes();
-        assert!(rt; text.starts_with(b"guest 2\nstate "), "{want}");
-        assert!(rt; text[14..].starts_with(want.as_bytes()), "{want}");
-        assert!(rt; text.ends_with(b"\nPENDING 00000000\nend\n"), "{want}");
+        let out = text_of(rt.alloc(), state).expect(&rt, "ample memory");
+        assert!(rt; tells(out.bytes(), want), "{want}");
     }
 }
 

@@ -38,18 +38,20 @@ type Piece<'a> = (&'a str, u64, usize, Result<&'a [u8], ShelfFault>);
 
 const FAILED: Result<&[u8], ShelfFault> = Err(ShelfFault::Failed);
 
+/// Whether the shelf gives a piece as it should.
+fn gives<S: Shelf>(alloc: Global, shelf: &mut S, piece: &Piece) -> bool {
+    let (name, at, room, want) = *piece;
+    let mut buf = [0u8; 8];
+    let got = shelf.piece(alloc, name, at, &mut buf[..room.min(8)]);
+    match want {
+        Ok(bytes) => got == Ok(bytes.len()) && buf.starts_with(bytes),
+        Err(fault) => got == Err(fault),
+    }
+}
+
 fn check_pieces<S: Shelf>(rt: &impl Abort, alloc: Global, shelf: &mut S, pieces: &[Piece]) {
-    for (name, at, room, want) in pieces {
-        let mut buf = [0u8; 8];
-        let room = (*room).min(8);
-        let got = shelf.piece(alloc, name, *at, &mut buf[..room]);
-        match want {
-            Ok(bytes) => {
-                assert!(rt; got == Ok(bytes.len()), "{name} at {at}");
-                assert!(rt; buf.starts_with(bytes), "{name} at {at}");
-            }
-            Err(fault) => assert!(rt; got == Err(*fault), "{name} at {at}"),
-        }
+    for piece in pieces {
+        assert!(rt; gives(alloc, shelf, piece), "{} at {}", piece.0, piece.1);
     }
 }
 
@@ -143,7 +145,9 @@ fn load_reads_whole_files(rt: HostRuntime) {
 }
 
 /// The room of a sink, the call that fails, and what it answers and takes of two texts.
-static TAKEN: [(usize, u64, Result<(), SinkFault>, &[u8]); 8] = [
+type Taken = (usize, u64, Result<(), SinkFault>, &'static [u8]);
+
+static TAKEN: [Taken; 8] = [
     (0, 0, Err(SinkFault), b""),
     (1, 0, Err(SinkFault), b"h"),
     (4, 0, Err(SinkFault), b"hell"),
@@ -154,15 +158,25 @@ static TAKEN: [(usize, u64, Result<(), SinkFault>, &[u8]); 8] = [
     (9, 2, Err(SinkFault), b"hello"),
 ];
 
+/// Whether a sink takes as much as it should.
+fn takes(alloc: Global, row: &Taken) -> Option<bool> {
+    let (room, fails, want, bytes) = *row;
+    let fails = Vec::from_slice(alloc, &[fails]).ok()?;
+    let mut sink = MemSink::new(alloc, room, fails).ok()?;
+    let first = put_all(&mut sink, b"hello");
+    let got = put_more(&mut sink, first, b"!");
+    Some(got == want && sink.bytes() == bytes)
+}
+
 #[test]
 fn a_sink_takes_what_has_room(rt: HostRuntime) {
-    for &(room, fails, want, bytes) in &TAKEN {
-        let listed = Vec::from_slice(rt.alloc(), &[fails]).expect(&rt, "ample memory");
-        let mut sink = MemSink::new(rt.alloc(), room, listed).expect(&rt, "ample memory");
-        let first = put_all(&mut sink, b"hello");
-        let got = put_more(&mut sink, first, b"!");
-        assert!(rt; got == want, "room {room}, fails {fails}");
-        assert!(rt; sink.bytes() == bytes, "room {room}, fails {fails}");
+    for row in &TAKEN {
+        assert!(rt;
+            takes(rt.alloc(), row) == Some(true),
+            "room {}, fails {}",
+            row.0,
+            row.1
+        );
     }
 }
 

@@ -3,7 +3,7 @@
 
 use crate::spelled::spell;
 use mb_encode::encode;
-use mb_instr::{Caches, ControlRegister};
+use mb_instr::{Caches, ControlRegister, Instr};
 use mb_mnemonics::{Ending, Line, MeansFault, Pattern, Patterns, instruction_of, length_of, lines};
 use mb_port::MmuReg;
 use mb_syntax::Base::{Address, NoAddress, NoPc, Pc};
@@ -15,8 +15,6 @@ use mb_syntax::{
     SizeLetter, Width,
 };
 use std::alloc::Global;
-use std::process::Abort;
-use std::test::Fail;
 
 /// A statement, and the words that it has, or why it means nothing.
 struct Case {
@@ -195,30 +193,32 @@ static CASES: [Case; 61] = [
     case!("UNLK", Some(Long), [address!(6)], Operand),
 ];
 
-#[test]
-fn statements(rt: HostRuntime) -> Result<(), Fail> {
-    for case in &CASES {
-        let (name, size, operands) = (case.name.as_bytes(), case.size, case.operands);
-        match (instruction_of(name, size, operands, AT), case.means) {
-            (Ok(instruction), Ok(expected)) => {
-                let words = spell(rt.alloc(), encode(&instruction)?.as_slice())?;
-                assert!(rt; words.as_str() == expected, "at {} {operands:?}", case.name);
-                let length = length_of(name, size, operands)?;
-                assert!(rt;
-                    length as usize == expected.len() / 5 * 2 + 2,
-                    "at {} {operands:?}",
-                    case.name
-                );
-            }
-            (Err(fault), Err(expected)) => assert!(rt;
-                fault == expected,
-                "at {} {operands:?}",
-                case.name
-            ),
-            _ => assert!(rt; false, "at {} {operands:?}", case.name),
-        }
+/// Whether an instruction has these words, and so many bytes as a statement's length says.
+fn has_words(alloc: Global, case: &Case, instruction: &Instr, expected: &str) -> Option<bool> {
+    let words = spell(alloc, encode(instruction).ok()?.as_slice()).ok()?;
+    let length = length_of(case.name.as_bytes(), case.size, case.operands).ok()?;
+    Some(words.as_str() == expected && length as usize == expected.len() / 5 * 2 + 2)
+}
+
+/// Whether a statement means what its case says.
+fn means(alloc: Global, case: &Case) -> Option<bool> {
+    let meant = instruction_of(case.name.as_bytes(), case.size, case.operands, AT);
+    match (meant, case.means) {
+        (Ok(instruction), Ok(expected)) => has_words(alloc, case, &instruction, expected),
+        (Err(fault), Err(expected)) => Some(fault == expected),
+        _ => Some(false),
     }
-    Ok(())
+}
+
+#[test]
+fn statements(rt: HostRuntime) {
+    for (number, case) in CASES.iter().enumerate() {
+        assert!(rt;
+            means(rt.alloc(), case) == Some(true),
+            "{}, case {number}",
+            case.name
+        );
+    }
 }
 
 /// How many modes `mode` has.
@@ -333,42 +333,66 @@ fn forms_at(line: &Line) -> ([(u8, u8); 3], usize) {
     }
 }
 
-/// How many statements of a line with operands of its patterns' kinds, under the name and size, have a length. Each of
-/// them means an instruction.
-fn count_meant(rt: &impl Abort, line: &Line, name: &[u8], letter: Option<SizeLetter>) -> u32 {
+/// The operands of a statement, where each kind has one at its place.
+fn operands_at(i: u8, j: u8, k: u8) -> [Operand<i64>; 3] {
+    [operand(i), operand(j), operand(k)]
+}
+
+/// Whether a statement with these operands has a length; nothing where it has one and means no instruction.
+fn has_length(name: &[u8], letter: Option<SizeLetter>, operands: &[Operand<i64>]) -> Option<bool> {
+    let has = length_of(name, letter, operands).is_ok();
+    (!has || instruction_of(name, letter, operands, AT).is_ok()).then_some(has)
+}
+
+/// How many statements of a line with operands of its patterns' kinds, under the name and size, have a length. Nothing
+/// where one of them means no instruction.
+fn count_meant(line: &Line, name: &[u8], letter: Option<SizeLetter>) -> Option<u32> {
     let ([first, second, third], places) = forms_at(line);
     let mut count = 0u32;
     for i in first.0..first.1 {
         for j in second.0..second.1 {
             for k in third.0..third.1 {
-                let operands = [operand(i), operand(j), operand(k)];
-                let operands = &operands[..places.min(3)];
-                if length_of(name, letter, operands).is_ok() {
-                    let meant = instruction_of(name, letter, operands, AT).is_ok();
-                    assert!(rt; meant, "at {name:?} {letter:?} {operands:?}");
+                let operands = operands_at(i, j, k);
+                if has_length(name, letter, &operands[..places.min(3)])? {
                     count = count.saturating_add(1);
                 }
             }
         }
     }
-    count
+    Some(count)
+}
+
+/// A name of a line.
+fn name_of(alloc: Global, line: &Line) -> Option<String> {
+    let mut name = String::from_str(alloc, str::from_utf8(line.stem.letters()).ok()?).ok()?;
+    if line.ending != Ending::Plain {
+        name.push_str("EQ").ok()?;
+    }
+    Some(name)
+}
+
+/// All sizes.
+static LETTERS: [Option<SizeLetter>; 5] = [None, Some(Byte), Some(Short), Some(Word), Some(Long)];
+
+/// How many statements of a line have a length, at all sizes.
+fn count_of(line: &Line, name: &[u8]) -> Option<u32> {
+    let mut found = 0u32;
+    for &letter in &LETTERS {
+        found = found.saturating_add(count_meant(line, name, letter)?);
+    }
+    Some(found)
 }
 
 /// Each line has its row with each mode and operand that it takes, at each size.
 #[test]
-fn each_line_has_its_row(rt: HostRuntime) -> Result<(), Fail> {
+fn each_line_has_its_row(rt: HostRuntime) {
     for line in lines() {
-        let mut name = String::new(rt.alloc());
-        name.push_str(str::from_utf8(line.stem.letters())?)?;
-        if line.ending != Ending::Plain {
-            name.push_str("EQ")?;
-        }
-        let mut found = 0u32;
-        for letter in [None, Some(Byte), Some(Short), Some(Word), Some(Long)] {
-            let meant = count_meant(&rt, line, name.as_str().as_bytes(), letter);
-            found = found.saturating_add(meant);
-        }
-        assert!(rt; found > 0, "at {}", name.as_str());
+        let name = name_of(rt.alloc(), line).expect(&rt, "memory");
+        let found = count_of(line, name.as_bytes());
+        assert!(rt;
+            found.is_some_and(|count| count > 0),
+            "at {}",
+            name.as_str()
+        );
     }
-    Ok(())
 }

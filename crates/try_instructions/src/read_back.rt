@@ -20,20 +20,25 @@ pub fn read_back(i: &Instr) -> Result<Decoded, Unencodable>
     }
 }
 
-/// Each instruction that a first word begins, with words of zeros behind it, is written as it was read.
-#[test]
-fn each_first_word_is_written_again(rt: HostRuntime) -> Result<(), Unencodable> {
-    for first in 0..=u16::MAX {
-        let words = [first, 0, 0, 0, 0, 0, 0, 0, 0, 0, 0];
-        let decoded = decode(&words);
-        if let Decoded::Whole(instruction, length) = decoded {
-            let written = encode(&instruction)?;
-            assert!(rt;
-                words.get(..usize::from(length)) == Some(written.as_slice()),
-                "at {first:04x}"
-            );
-            assert!(rt; read_back(&instruction) == Ok(decoded), "at {first:04x}");
+/// Whether the instruction that a first word begins, with words of zeros behind it, is written as it was read.
+fn is_written_again(first: u16) -> bool {
+    let words = [first, 0, 0, 0, 0, 0, 0, 0, 0, 0, 0];
+    let decoded = decode(&words);
+    let Decoded::Whole(instruction, length) = decoded else {
+        return true;
+    };
+    match encode(&instruction) {
+        Ok(written) => {
+            words.get(..usize::from(length)) == Some(written.as_slice())
+                && read_back(&instruction) == Ok(decoded)
         }
+        Err(_) => false,
     }
-    Ok(())
+}
+
+#[test]
+fn each_first_word_is_written_again(rt: HostRuntime) {
+    for first in 0..=u16::MAX {
+        assert!(rt; is_written_again(first), "at {first:04x}");
+    }
 }

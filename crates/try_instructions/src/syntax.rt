@@ -1,7 +1,7 @@
 //! Lines, and the statements that they are.
 
-use mb_syntax::{Mode, Operand, Operation, SizeLetter, Statement, SyntaxFault, Width, parse};
-use std::test::Fail;
+use mb_syntax::{Expression, Mode, Operand, SizeLetter, Statement, SyntaxFault, Width, parse};
+use std::alloc::Global;
 
 #[rattlefmt::skip]
 static STATEMENTS: [&[u8]; 34] = [
@@ -69,50 +69,56 @@ static OTHERS: [&[u8]; 24] = [
     b"a_symbol_that_is_longer_than_sixty_three_bytes_has_no_place_at_all nop",
 ];
 
-#[test]
-fn lines_of_the_grammar_and_others(rt: HostRuntime) -> Result<(), Fail> {
-    for &line in &STATEMENTS {
-        assert!(rt; line.len() < 1000);
-        assert!(rt; parse(rt.alloc(), line).is_ok(), "{line:?}");
+/// Whether a line is a statement, or none by its syntax; nothing of a long line, and where memory ran out.
+fn is_statement(alloc: Global, line: &[u8]) -> Option<bool> {
+    if line.len() > 1000 {
+        return None;
     }
-    for &line in &OTHERS {
-        assert!(rt; line.len() < 1000);
-        let parsed = parse(rt.alloc(), line);
-        assert!(rt; matches!(parsed, Err(SyntaxFault::Syntax)), "{line:?}");
+    match parse(alloc, line) {
+        Ok(_) => Some(true),
+        Err(SyntaxFault::Syntax) => Some(false),
+        Err(_) => None,
     }
-    Ok(())
 }
 
 #[test]
-fn one_statement(rt: HostRuntime) -> Result<(), Fail> {
-    let line = b"here: MOVE.B there.W,(A3)+ ; and there";
-    let statement = parse(rt.alloc(), line)?;
-    let Statement {
-        label: Some(label),
-        operation: Some(
-            Operation {
-                name,
-                size,
-                operands,
-            },
-        ),
-    } = statement
-    else {
-        return Err("no operation".into());
+fn lines_of_the_grammar_and_others(rt: HostRuntime) {
+    for &line in &STATEMENTS {
+        assert!(rt; is_statement(rt.alloc(), line) == Some(true), "{line:?}");
+    }
+    for &line in &OTHERS {
+        assert!(rt; is_statement(rt.alloc(), line) == Some(false), "{line:?}");
+    }
+}
+
+/// A line with a label and two operands.
+const LINE: &[u8] = b"here: MOVE.B there.W,(A3)+ ; and there";
+
+/// Whether operands are a short address, and a register that steps.
+fn are_short_and_step(operands: &[Operand<Expression>]) -> bool {
+    let width = Some(Width::Word);
+    match operands {
+        [
+            Operand::Mode(Mode::Absolute { width: short, .. }),
+            Operand::Mode(Mode::PostIncrement(3)),
+        ] => *short == width,
+        _ => false,
+    }
+}
+
+/// Whether a statement of that line has all its parts.
+fn has_parts(statement: &Statement) -> bool {
+    let (Some(label), Some(operation)) = (&statement.label, &statement.operation) else {
+        return false;
     };
-    assert!(rt; label.bytes(line) == b"here".as_slice());
-    assert!(rt; name.bytes(line) == b"MOVE".as_slice());
-    assert!(rt; size == Some(SizeLetter::Byte));
-    assert!(rt; operands.len() == 2);
-    assert!(rt;
-        matches!(
-            operands[0],
-            Operand::Mode(Mode::Absolute {
-                width: Some(Width::Word),
-                ..
-            })
-        )
-    );
-    assert!(rt; matches!(operands[1], Operand::Mode(Mode::PostIncrement(3))));
-    Ok(())
+    label.bytes(LINE) == b"here".as_slice()
+        && operation.name.bytes(LINE) == b"MOVE".as_slice()
+        && operation.size == Some(SizeLetter::Byte)
+        && are_short_and_step(&operation.operands)
+}
+
+#[test]
+fn one_statement(rt: HostRuntime) {
+    let statement = parse(rt.alloc(), LINE).ok();
+    assert!(rt; has_parts(&statement.expect(&rt, "a statement")));
 }

@@ -5,7 +5,6 @@ ghost use Rattle.std.specs.Prelude.{◌<◌, ◌^◌, length};
 use TokenKind::{Blank, Comment, Mark, Name, Number, Text};
 use mb_asm_text::{LexFault, TokenKind, lex};
 use std::alloc::Global;
-use std::test::Fail;
 
 /// Whether the line has exactly these tokens.
 fn has_tokens(alloc: Global, line: &[u8], want: &[(TokenKind, u32, u32)]) -> Result<bool, LexFault>
@@ -91,20 +90,23 @@ static ROWS: [Row; 53] = [
     Row { line: b"a@;@", cut: Err(1) },
 ];
 
+/// Whether a line is cut so; nothing where it is long, or memory ran out.
+fn is_cut(alloc: Global, row: &Row) -> Option<bool> {
+    if row.line.len() > 1000 {
+        return None;
+    }
+    match row.cut {
+        Ok(tokens) => has_tokens(alloc, row.line, tokens).ok(),
+        Err(place) => Some(lex(alloc, row.line).err() == Some(LexFault::At(place))),
+    }
+}
+
 #[test]
-fn cuts_lines(rt: HostRuntime) -> Result<(), Fail> {
+fn cuts_lines(rt: HostRuntime) {
     for row in &ROWS {
         let line = row.line;
-        assert!(rt; line.len() < 1000);
-        match row.cut {
-            Ok(tokens) => assert!(rt; has_tokens(rt.alloc(), line, tokens)?, "{line:?}"),
-            Err(place) => {
-                let fault = lex(rt.alloc(), line).err();
-                assert!(rt; fault == Some(LexFault::At(place)), "{line:?}");
-            }
-        }
+        assert!(rt; is_cut(rt.alloc(), row) == Some(true), "{line:?}");
     }
-    Ok(())
 }
 
 /// The bytes from $20 to $7E with which no token begins, whatever follows, or not alone.

@@ -274,6 +274,21 @@ static STEPS: [(Ea, Size, u32, Target, u32); 16] = [
     (Ea::Imm(0x1234), Size::Byte, 0x1000, Target::Value(0x34), 0x1000),
 ];
 
+/// Whether an operand stands where it should, before its register steps and as it does.
+fn steps(ea: Ea, size: Size, target: Target, plain: &mut Plain, port: &mut VectorPort) -> bool {
+    is_operand(size, ea)
+        && find_target(&ea, size, plain, 0, Space::User, port) == Ok(target)
+        && resolve(&ea, size, plain, 0, Space::User, port) == Ok(target)
+}
+
+/// The address register of an operand, where it steps, or A3.
+fn stepped(ea: Ea, plain: &Plain) -> u32 {
+    match ea {
+        Ea::Post(n) | Ea::Pre(n) if n < 8 => plain.a[n as usize],
+        _ => plain.a[3],
+    }
+}
+
 #[test]
 fn registers_that_step(rt: HostRuntime) -> Result<(), AllocError> {
     let mut port = memory(rt.alloc(), 0, 0)?;
@@ -284,34 +299,32 @@ fn registers_that_step(rt: HostRuntime) -> Result<(), AllocError> {
             pc: 0,
             ccr: 0,
         };
-        assert!(rt; is_operand(size, ea));
-        let found = find_target(&ea, size, &plain, 0, Space::User, &mut port);
-        assert!(rt; found == Ok(target), "{ea:?}");
-        let found = resolve(&ea, size, &mut plain, 0, Space::User, &mut port);
-        assert!(rt; found == Ok(target), "{ea:?}");
-        let register = match ea {
-            Ea::Post(n) | Ea::Pre(n) => plain.a[n as usize],
-            _ => plain.a[3],
-        };
-        assert!(rt; register == after, "{ea:?}");
+        let steps = steps(ea, size, target, &mut plain, &mut port);
+        assert!(rt; steps && stepped(ea, &plain) == after, "{ea:?}");
     }
     Ok(())
+}
+
+/// Whether operands are read in pieces.
+fn are_read(port: &mut VectorPort) -> bool {
+    read_operand(Space::User, 0x101, 4, port) == Ok(0x1122_3344)
+        && read_operand(Space::User, 0x101, 5, port) == Ok(0x11_2233_4400)
+        && read_value(Space::User, 0x102, Size::Word, port) == Ok(0x2233)
+        && read_value(Space::User, 0x103, Size::Word, port) == Ok(0x3344)
+}
+
+/// Whether the last piece of a long is refused.
+fn is_refused(port: &mut VectorPort) -> bool {
+    port.hole = 0x104;
+    match read_value(Space::User, 0x101, Size::Long, port) {
+        Err(refused) => refused.first == 0x101 && refused.fault.at == 0x104,
+        Ok(_) => false,
+    }
 }
 
 #[test]
 fn reads_in_pieces(rt: HostRuntime) -> Result<(), AllocError> {
     let mut port = memory(rt.alloc(), 0x101, 0x1122_3344)?;
-    assert!(rt; read_operand(Space::User, 0x101, 4, &mut port) == Ok(0x1122_3344));
-    assert!(rt; read_operand(Space::User, 0x101, 5, &mut port) == Ok(0x11_2233_4400));
-    assert!(rt; read_value(Space::User, 0x102, Size::Word, &mut port) == Ok(0x2233));
-    assert!(rt; read_value(Space::User, 0x103, Size::Word, &mut port) == Ok(0x3344));
-    port.hole = 0x104;
-    let refused = read_value(Space::User, 0x101, Size::Long, &mut port);
-    assert!(rt;
-        refused
-            .err()
-            .map(|refused| (refused.first, refused.fault.at))
-            == Some((0x101, 0x104))
-    );
+    assert!(rt; are_read(&mut port) && is_refused(&mut port));
     Ok(())
 }

@@ -40,6 +40,21 @@ static FIRST_PIECES: [(u32, u8, u8); 5] = [
     (8, 1, 1),
 ];
 
+/// Whether bytes are cut into these pieces.
+fn are_cut(at: u32, len: u8, wanted: &[(u32, u8)]) -> bool {
+    1 <= len && len <= 5 && are_pieces(split(at, len).as_slice(), wanted)
+}
+
+/// Whether pieces have these places and lengths.
+fn are_pieces(pieces: &[Piece], wanted: &[(u32, u8)]) -> bool {
+    for (piece, place) in pieces.iter().zip(wanted) {
+        if (piece.at, piece.len) != *place {
+            return false;
+        }
+    }
+    pieces.len() == wanted.len()
+}
+
 #[test]
 fn cuts_by_hand(rt: HostRuntime) {
     for &(at, left, len) in &FIRST_PIECES {
@@ -47,12 +62,7 @@ fn cuts_by_hand(rt: HostRuntime) {
         assert!(rt; first_piece(at, left) == Piece { at, len });
     }
     for &(at, len, wanted) in &CUTS {
-        assert!(rt; 1 <= len && len <= 5);
-        let pieces = split(at, len);
-        assert!(rt; pieces.len() == wanted.len(), "{len} bytes at {at}");
-        for (piece, (at, len)) in pieces.iter().zip(wanted) {
-            assert!(rt; (piece.at, piece.len) == (*at, *len));
-        }
+        assert!(rt; are_cut(at, len, wanted), "{len} bytes at {at}");
     }
 }
 

@@ -19,7 +19,7 @@ pub(crate) const NO_MMU: Mmu = Mmu {
 /// A memory of these longs that refuses one byte.
 pub(crate) fn port_of(alloc: Global, longs: &[u32], hole: u32) -> Result<VectorPort, AllocError> {
     Ok(VectorPort {
-        longs: longs.to_vec(alloc)?,
+        longs: Vec::from_slice(alloc, longs)?,
         hole,
         mmu: NO_MMU,
         is_quick: false,
@@ -37,29 +37,39 @@ fn bump<P: Port>(port: &mut P, at: u32) -> Result<u32, Fault> {
     Ok(old)
 }
 
+/// Whether accesses are answered, where there is a hole in the last long.
+fn accesses(port: &mut VectorPort) -> bool {
+    port.fetch(Space::User, 6) == Ok(0x6677)
+        && bump(port, 5) == Ok(0x55)
+        && port.read(Space::User, Piece { at: 4, len: 4 }) == Ok(0x4456_6677)
+        && bump(port, 13).is_err()
+        && bump(port, 16).is_err()
+}
+
+/// Whether a place that was found before is read and written.
+fn finds_a_place(port: &mut VectorPort) -> bool {
+    let Ok(place) = port.probe(Space::Super, Piece { at: 2, len: 2 }) else {
+        return false;
+    };
+    let value = port.get(place);
+    port.put(place, 0xFFFF_ABCD);
+    value == 0x2233 && port.read(Space::User, Piece { at: 0, len: 4 }) == Ok(0x0011_ABCD)
+}
+
+/// Whether lines are refused and taken, and a register is set.
+fn takes_lines(port: &mut VectorPort) -> bool {
+    let refused = port.read_line(Space::User, 0).is_err();
+    port.hole = u32::MAX;
+    port.set_mmu(MmuReg::Dtt1, 7);
+    refused
+        && port.write_line(Space::User, 0, [1, 2, 3, 4]).is_ok()
+        && port.read_line(Space::User, 0) == Ok([1, 2, 3, 4])
+        && port.mmu().dtt1 == 7
+}
+
 #[test]
 fn calls_by_hand(rt: HostRuntime) -> Result<(), AllocError> {
-    // With a hole in the last.
     let mut port = port_of(rt.alloc(), &LONGS, 13)?;
-    assert!(rt; port.fetch(Space::User, 6) == Ok(0x6677));
-    assert!(rt; bump(&mut port, 5) == Ok(0x55));
-    assert!(rt; port.read(Space::User, Piece { at: 4, len: 4 }) == Ok(0x4456_6677));
-    assert!(rt; bump(&mut port, 13).is_err());
-    assert!(rt; bump(&mut port, 16).is_err());
-
-    // By a place that was found before.
-    if let Ok(place) = port.probe(Space::Super, Piece { at: 2, len: 2 }) {
-        assert!(rt; port.get(place) == 0x2233);
-        port.put(place, 0xFFFF_ABCD);
-    }
-    assert!(rt; port.read(Space::User, Piece { at: 0, len: 4 }) == Ok(0x0011_ABCD));
-
-    // Lines, and a register.
-    assert!(rt; port.read_line(Space::User, 0).is_err());
-    port.hole = u32::MAX;
-    assert!(rt; port.write_line(Space::User, 0, [1, 2, 3, 4]) == Ok(()));
-    assert!(rt; port.read_line(Space::User, 0) == Ok([1, 2, 3, 4]));
-    port.set_mmu(MmuReg::Dtt1, 7);
-    assert!(rt; port.mmu().dtt1 == 7);
+    assert!(rt; accesses(&mut port) && finds_a_place(&mut port) && takes_lines(&mut port));
     Ok(())
 }

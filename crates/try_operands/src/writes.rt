@@ -10,7 +10,9 @@ use Write::{Apart, Operand};
 use mb_frames::Pend;
 use mb_instr::{Plain, Size};
 use mb_port::Space;
-use mb_writes::{Movem, complete, continue_movem, count, transfer, write_apart, write_operand};
+use mb_writes::{
+    Movem, WriteFault, complete, continue_movem, count, transfer, write_apart, write_operand,
+};
 use std::alloc::{AllocError, Global};
 use std::process::Abort;
 use try_vector::VectorPort;
@@ -42,7 +44,7 @@ fn are_pending(pending: &[Pend]) -> bool
 }
 
 /// What is written.
-#[derive(Clone, Copy, Debug)]
+#[derive(Clone, Copy)]
 enum Write {
     /// So many low bytes of $EE1122334455.
     Operand(u8),
@@ -116,44 +118,58 @@ static REFUSED_WRITES: [RefusedWrite; 25] = [
         rest: &[(7, 1, 0x55)], whole: [0x0022_0033, 0x0044_0055] },
 ];
 
+/// Whether these pieces are left, with these values.
+fn are_left(left: &[Pend], wanted: &[(u32, u8, u32)]) -> bool {
+    for (pend, piece) in left.iter().zip(wanted) {
+        if (pend.at, pend.len, pend.value) != *piece {
+            return false;
+        }
+    }
+    left.len() == wanted.len()
+}
+
+/// Whether what is left can be written.
+fn completes(left: &[Pend], port: &mut VectorPort) -> bool {
+    are_pending(left) && complete(left, Space::User, port).is_ok()
+}
+
+impl RefusedWrite {
+    /// Writes, and answers why that is refused; nothing of an operand that has not 1 to 5 bytes.
+    fn refusal(&self, port: &mut VectorPort) -> Option<WriteFault> {
+        match self.write {
+            Operand(len) if 1 <= len && len <= 5 => {
+                write_operand(Space::User, self.at, len, 0xEE11_2233_4455, port).err()
+            }
+            Operand(_) => None,
+            Apart(size) => write_apart(Space::User, self.at, size, 0x2233_4455, port).err(),
+        }
+    }
+
+    /// Whether it is refused with what should be left.
+    fn leaves(&self, refused: &WriteFault) -> bool {
+        refused.first == self.at
+            && (refused.fault.at, refused.fault.len) == self.fault
+            && are_left(refused.rest.as_slice(), self.rest)
+    }
+
+    /// Whether it is refused as it should be, and then completed.
+    fn passes(&self, port: &mut VectorPort) -> bool {
+        let Some(refused) = self.refusal(port) else {
+            return false;
+        };
+        let then = port.longs.as_slice() == self.then.as_slice();
+        port.hole = u32::MAX;
+        then && self.leaves(&refused)
+            && completes(refused.rest.as_slice(), port)
+            && port.longs.as_slice() == self.whole.as_slice()
+    }
+}
+
 #[test]
 fn refused_writes(rt: HostRuntime) -> Result<(), AllocError> {
     for row in &REFUSED_WRITES {
         let mut port = VectorPort::new(rt.alloc(), 2, row.hole)?;
-        let put = match row.write {
-            Operand(len) => {
-                assert!(rt; 1 <= len && len <= 5);
-                write_operand(Space::User, row.at, len, 0xEE11_2233_4455, &mut port)
-            }
-            Apart(size) => write_apart(Space::User, row.at, size, 0x2233_4455, &mut port),
-        };
-        assert!(rt;
-            put.is_err(),
-            "{:?} at {}, byte {}",
-            row.write,
-            row.at,
-            row.hole
-        );
-        assert!(rt; port.longs.as_slice() == row.then.as_slice());
-        if let Err(refused) = put {
-            assert!(rt; refused.first == row.at);
-            assert!(rt; (refused.fault.at, refused.fault.len) == row.fault);
-            assert!(rt;
-                refused.rest.len() == row.rest.len(),
-                "{:?} at {}, byte {}",
-                row.write,
-                row.at,
-                row.hole
-            );
-            for (pend, piece) in refused.rest.iter().zip(row.rest) {
-                assert!(rt; (pend.at, pend.len, pend.value) == *piece);
-            }
-            port.hole = u32::MAX;
-            let left = refused.rest.as_slice();
-            assert!(rt; are_pending(left));
-            assert!(rt; complete(left, Space::User, &mut port) == Ok(()));
-        }
-        assert!(rt; port.longs.as_slice() == row.whole.as_slice());
+        assert!(rt; row.passes(&mut port), "at {}, byte {}", row.at, row.hole);
     }
     Ok(())
 }
@@ -166,18 +182,19 @@ const A3: u32 = 0x3333_8333;
 /// Memory before a transfer.
 const LONGS: [u32; 4] = [0x0A0B_0C0D, 0x8001_7002, 0x9003_6004, 0xA005_5006];
 
+/// The other registers.
+const D: u32 = 0xDDDD_DDDD;
+
+const A: u32 = 0xAAAA_AAAA;
+
 /// Registers with D1, A2 and A3.
-fn registers([d1, a2, a3]: [u32; 3]) -> Plain {
-    let mut plain = Plain {
-        d: [0xDDDD_DDDD; 8],
-        a: [0xAAAA_AAAA; 8],
+fn registers(named: [u32; 3]) -> Plain {
+    Plain {
+        d: [D, named[0], D, D, D, D, D, D],
+        a: [A, A, named[1], named[2], A, A, A, A],
         pc: 0,
         ccr: 0,
-    };
-    plain.d[1] = d1;
-    plain.a[2] = a2;
-    plain.a[3] = a3;
-    plain
+    }
 }
 
 /// A MOVEM of D1, A2 and A3 by A2: its two words, the first address, and A2 before; D1, A2, A3 and the longs from
@@ -303,34 +320,53 @@ static TRANSFERS: [Transfer; 8] = [
 ];
 
 /// Whether memory has these longs from address 4 on.
-fn has_longs(port: &VectorPort, [one, two, three]: [u32; 3]) -> bool {
-    port.longs.as_slice() == [LONGS[0], one, two, three].as_slice()
+fn has_longs(port: &VectorPort, longs: [u32; 3]) -> bool {
+    port.longs.as_slice() == [LONGS[0], longs[0], longs[1], longs[2]].as_slice()
+}
+
+impl Transfer {
+    /// Whether all is transferred.
+    fn passes(&self, port: &mut VectorPort) -> bool {
+        let mut plain = registers([D1, self.base, A3]);
+        let movem = Movem::of(self.words);
+        transfer(&movem, self.ea, 0, &mut plain, Space::User, port).is_ok()
+            && self.is_done(&plain, port)
+    }
+
+    /// Whether registers and memory are as they should be in the end.
+    fn is_done(&self, plain: &Plain, port: &VectorPort) -> bool {
+        *plain == registers(self.after) && has_longs(port, self.longs)
+    }
+
+    /// Whether a byte refuses it as it should.
+    fn is_refused(&self, refusal: &Refusal, plain: &mut Plain, port: &mut VectorPort) -> bool {
+        let movem = Movem::of(self.words);
+        let Err(refused) = transfer(&movem, self.ea, 0, plain, Space::User, port) else {
+            return false;
+        };
+        (refused.fault.at, refused.first, refused.done) == (refusal.at, self.ea, refusal.done)
+            && *plain == registers(refusal.then)
+            && has_longs(port, refusal.longs)
+    }
+
+    /// Whether it goes on to the same end.
+    fn goes_on(&self, done: u8, plain: &mut Plain, port: &mut VectorPort) -> bool {
+        port.hole = u32::MAX;
+        done <= count(Movem::of(self.words).mask)
+            && continue_movem(plain, self.words, self.ea, done, Space::User, port).is_ok()
+            && self.is_done(plain, port)
+    }
 }
 
 /// Each refusal of a MOVEM, and that it goes on to the same end.
 fn check_refusals(rt: &impl Abort, alloc: Global, row: &Transfer) -> Result<(), AllocError> {
-    let (words, ea) = (row.words, row.ea);
-    let movem = Movem::of(words);
     for refusal in row.refusals {
-        let (hole, done) = (refusal.hole, refusal.done);
-        let mut port = port_of(alloc, &LONGS, hole)?;
+        let mut port = port_of(alloc, &LONGS, refusal.hole)?;
         let mut plain = registers([D1, row.base, A3]);
-        let refused = transfer(&movem, ea, 0, &mut plain, Space::User, &mut port);
-        let refused = refused
-            .err()
-            .map(|fault| (fault.fault.at, fault.first, fault.done));
-        assert!(rt;
-            refused == Some((refusal.at, ea, done)),
-            "{words:x}, byte {hole}"
-        );
-        assert!(rt; plain == registers(refusal.then), "{words:x}, byte {hole}");
-        assert!(rt; has_longs(&port, refusal.longs), "{words:x}, byte {hole}");
-        port.hole = u32::MAX;
-        assert!(rt; done <= count(movem.mask));
-        let rest = continue_movem(&mut plain, words, ea, done, Space::User, &mut port);
-        assert!(rt; rest == Ok(()), "{words:x}, byte {hole}");
-        assert!(rt; plain == registers(row.after), "{words:x}, byte {hole}");
-        assert!(rt; has_longs(&port, row.longs), "{words:x}, byte {hole}");
+        let refused = row.is_refused(refusal, &mut plain, &mut port);
+        assert!(rt; refused, "{:x}, byte {}", row.words, refusal.hole);
+        let goes_on = row.goes_on(refusal.done, &mut plain, &mut port);
+        assert!(rt; goes_on, "{:x}, byte {}", row.words, refusal.hole);
     }
     Ok(())
 }
@@ -339,12 +375,7 @@ fn check_refusals(rt: &impl Abort, alloc: Global, row: &Transfer) -> Result<(), 
 fn transfers(rt: HostRuntime) -> Result<(), AllocError> {
     for row in &TRANSFERS {
         let mut port = port_of(rt.alloc(), &LONGS, u32::MAX)?;
-        let mut plain = registers([D1, row.base, A3]);
-        let movem = Movem::of(row.words);
-        let moved = transfer(&movem, row.ea, 0, &mut plain, Space::User, &mut port);
-        assert!(rt; moved == Ok(()), "{:x}", row.words);
-        assert!(rt; plain == registers(row.after), "{:x}", row.words);
-        assert!(rt; has_longs(&port, row.longs), "{:x}", row.words);
+        assert!(rt; row.passes(&mut port), "{:x}", row.words);
         check_refusals(&rt, rt.alloc(), row)?;
     }
     Ok(())

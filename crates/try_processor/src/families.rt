@@ -103,23 +103,34 @@ static ROWS: [Row; 13] = [
         long: (0x3000, 0) },
 ];
 
+impl Row {
+    /// The registers after the instruction.
+    fn wanted(&self) -> Plain {
+        let mut plain = processor(0).regs.plain();
+        plain.d[0] = self.d0;
+        plain.a[0] = self.a0;
+        plain.a[7] = self.a7;
+        plain.pc = self.pc;
+        plain.ccr = self.ccr;
+        plain
+    }
+
+    /// Whether the instruction comes to what it should.
+    fn passes(&self, port: &mut VectorPort) -> bool {
+        let mut plain = processor(0).regs.plain();
+        let (at, long) = self.long;
+        performed(self.words, &mut plain, port) == Some(self.end)
+            && plain == self.wanted()
+            && stands(port, at, &[long])
+    }
+}
+
 #[test]
 fn each_family_by_its_call(rt: HostRuntime) -> Result<(), AllocError> {
     for row in &ROWS {
         let mut port = memory(rt.alloc(), row.hole, row.words)?;
-        let mut plain = processor(0).regs.plain();
-        let mut wanted = plain;
-        wanted.d[0] = row.d0;
-        wanted.a[0] = row.a0;
-        wanted.a[7] = row.a7;
-        wanted.pc = row.pc;
-        wanted.ccr = row.ccr;
-        let end = performed(row.words, &mut plain, &mut port);
         let words = row.words;
-        assert!(rt; end == Some(row.end), "{words:?}");
-        assert!(rt; plain == wanted, "{words:?}");
-        let (at, long) = row.long;
-        assert!(rt; stands(&port, at, &[long]), "{words:?}");
+        assert!(rt; row.passes(&mut port), "{words:?}");
     }
     Ok(())
 }

@@ -13,7 +13,6 @@ use mb_model::Cpu;
 use mb_step::StepEnd;
 use mb_writes::count;
 use std::alloc::{AllocError, Global};
-use std::process::Abort;
 use try_vector::VectorPort;
 
 /// The guest's status register: user mode, with X, Z and C.
@@ -52,16 +51,12 @@ impl Row<'_> {
         cpu
     }
 
-    /// Ends the test where the finish came to anything else; `at` is where it writes.
-    fn expect(&self, rt: &impl Abort, end: StepEnd, cpu: &Cpu, at: u32, port: &VectorPort) {
-        assert!(rt; end == self.end, "{}", self.name);
-        assert!(rt;
-            (cpu.regs.sr, cpu.regs.pc, cpu.regs.isp) == self.after,
-            "{}",
-            self.name
-        );
-        assert!(rt; stands(port, at, self.longs), "{}", self.name);
-        assert!(rt; stands(port, cpu.regs.isp, self.frame), "{}", self.name);
+    /// Whether the finish came to what it should; `at` is where it writes.
+    fn is_met(&self, end: StepEnd, cpu: &Cpu, at: u32, port: &VectorPort) -> bool {
+        end == self.end
+            && (cpu.regs.sr, cpu.regs.pc, cpu.regs.isp) == self.after
+            && stands(port, at, self.longs)
+            && stands(port, cpu.regs.isp, self.frame)
     }
 }
 

@@ -75,16 +75,19 @@ fn has_offset(frame: &Frame) -> bool
     }
 }
 
+impl Case {
+    /// Whether the frame has these bytes, and is made of them.
+    fn passes(&self) -> bool {
+        has_offset(&self.frame)
+            && to_bytes(&self.frame).as_slice() == self.bytes
+            && from_bytes(self.bytes) == Some(self.frame)
+    }
+}
+
 #[test]
 fn frames_have_their_bytes(rt: HostRuntime) {
     for case in &CASES {
-        assert!(rt; has_offset(&case.frame), "{}", case.name);
-        assert!(rt;
-            to_bytes(&case.frame).as_slice() == case.bytes,
-            "{}",
-            case.name
-        );
-        assert!(rt; from_bytes(case.bytes) == Some(case.frame), "{}", case.name);
+        assert!(rt; case.passes(), "{}", case.name);
     }
 }
 
@@ -94,17 +97,25 @@ static LEAST: [Option<usize>; 16] = [
     Some(8), Some(8), Some(12), None, None, None, None, Some(60), None, None, None, None, None, None, None, None,
 ];
 
+/// Whether a frame of a format is made of its bytes and more, and of fewer none.
+fn has_length(format: u8, least: Option<usize>) -> bool {
+    let mut bytes = [0u8; 60];
+    bytes[6] = format.wrapping_mul(16);
+    for len in 0..=60usize {
+        let whole = match least {
+            Some(least) => len >= least,
+            None => false,
+        };
+        if from_bytes(&bytes[..len]).is_some() != whole {
+            return false;
+        }
+    }
+    true
+}
+
 #[test]
 fn each_format_has_its_length(rt: HostRuntime) {
     for (format, least) in LEAST.iter().enumerate() {
-        let mut bytes = [0u8; 60];
-        bytes[6] = format as u8 * 16;
-        for len in 0..=60usize {
-            let whole = least.is_some_and(|least| len >= least);
-            assert!(rt;
-                from_bytes(&bytes[..len]).is_some() == whole,
-                "format {format}, {len} bytes"
-            );
-        }
+        assert!(rt; has_length(format as u8, *least), "format {format}");
     }
 }

@@ -172,26 +172,51 @@ static ROWS: [Row; 41] = [
     Row { words: &[0xF568], sr: 0x2704, isp: 0x8000, flow: false, changes: &[Mmusr(0)] },
 ];
 
+impl Row {
+    /// The processor before the instruction.
+    fn before(&self) -> Cpu {
+        let mut cpu = supervisor();
+        cpu.regs.sr = self.sr;
+        cpu.regs.isp = self.isp;
+        cpu
+    }
+
+    /// The processor after it, as the memory is made as it is then.
+    fn after(&self, port: &mut VectorPort) -> Cpu {
+        let mut cpu = self.before();
+        cpu.regs.pc = behind(self.words);
+        for change in self.changes {
+            change.make(&mut cpu, port);
+        }
+        cpu
+    }
+
+    /// Whether the instruction changes a processor and memory to what they should be: the other memory is as before.
+    fn passes(&self, port: &mut VectorPort, other: &mut VectorPort) -> bool {
+        let mut cpu = self.before();
+        performed(self.words, &mut cpu, port) == Some(Ended::Done { flow: self.flow })
+            && cpu == self.after(other)
+            && port.mmu == other.mmu
+            && port.longs == other.longs
+    }
+}
+
+/// The address behind an instruction.
+fn behind(words: &[u16]) -> u32 {
+    let mut at = AT;
+    for _word in words {
+        at = at.wrapping_add(2);
+    }
+    at
+}
+
 #[test]
 fn changes_by_hand(rt: HostRuntime) -> Result<(), AllocError> {
     for row in &ROWS {
-        let words = row.words;
-        assert!(rt; words.len() <= 2);
         let mut port = memory(rt.alloc())?;
-        let mut cpu = supervisor();
-        cpu.regs.sr = row.sr;
-        cpu.regs.isp = row.isp;
-        let mut wanted_port = memory(rt.alloc())?;
-        let mut wanted = cpu;
-        wanted.regs.pc = AT + 2 * words.len() as u32;
-        for change in row.changes {
-            change.make(&mut wanted, &mut wanted_port);
-        }
-        let end = performed(words, &mut cpu, &mut port);
-        assert!(rt; end == Some(Ended::Done { flow: row.flow }), "{words:?}");
-        assert!(rt; cpu == wanted, "{words:?}");
-        assert!(rt; port.mmu == wanted_port.mmu, "{words:?}");
-        assert!(rt; port.longs == wanted_port.longs, "{words:?}");
+        let mut other = memory(rt.alloc())?;
+        let words = row.words;
+        assert!(rt; row.passes(&mut port, &mut other), "{words:?}");
     }
     Ok(())
 }
@@ -239,66 +264,113 @@ static CONTROL: [(u16, u32); 15] = [
     (0x807, 0xFFFF_FE00),
 ];
 
+/// Whether a control register has this code and these bits.
+fn has_bits(code: u16, kept: u32) -> bool {
+    match ControlRegister::of(code) {
+        Some(register) => register.code() == code && register.kept_bits() == kept,
+        None => false,
+    }
+}
+
+/// Whether no other control register is changed.
+fn are_untouched(code: u16, cpu: &Cpu, port: &VectorPort, untouched: &VectorPort) -> bool {
+    let before = supervisor();
+    for &(other, _) in &CONTROL {
+        if other != code && held(other, cpu, port) != held(other, &before, untouched) {
+            return false;
+        }
+    }
+    true
+}
+
+/// Whether D1 takes what a control register holds, which takes its bits of D2, all ones, and then those of D1.
+fn goes_and_comes(code: u16, kept: u32, port: &mut VectorPort, untouched: &VectorPort) -> bool {
+    let mut cpu = supervisor();
+    let old = held(code, &cpu, port);
+    performed(&[0x4E7A, 0x1000 | code], &mut cpu, port) == DONE
+        && cpu.regs.d[1] == old
+        && performed(&[0x4E7B, 0x2000 | code], &mut cpu, port) == DONE
+        && held(code, &cpu, port) == kept
+        && are_untouched(code, &cpu, port, untouched)
+        && performed(&[0x4E7B, 0x1000 | code], &mut cpu, port) == DONE
+        && held(code, &cpu, port) == old & kept
+}
+
 #[test]
 fn control_registers_by_hand(rt: HostRuntime) -> Result<(), AllocError> {
+    let untouched = memory(rt.alloc())?;
     for &(code, kept) in &CONTROL {
         let mut port = memory(rt.alloc())?;
-        let mut cpu = supervisor();
-        let named = ControlRegister::of(code).map(|register| (
-            register.code(),
-            register.kept_bits(),
-        ));
-        assert!(rt; named == Some((code, kept)));
-        let old = held(code, &cpu, &port);
-        // From the control register to D1, and then to it from D2, which is all ones, and from D1 again.
-        assert!(rt; performed(&[0x4E7A, 0x1000 | code], &mut cpu, &mut port) == DONE);
-        assert!(rt; cpu.regs.d[1] == old, "{code}");
-        assert!(rt; performed(&[0x4E7B, 0x2000 | code], &mut cpu, &mut port) == DONE);
-        assert!(rt; held(code, &cpu, &port) == kept, "{code}");
-        for &(other, _) in &CONTROL {
-            let untouched = held(other, &supervisor(), &memory(rt.alloc())?);
-            assert!(rt;
-                other == code || held(other, &cpu, &port) == untouched,
-                "{code} {other}"
-            );
-        }
-        assert!(rt; performed(&[0x4E7B, 0x1000 | code], &mut cpu, &mut port) == DONE);
-        assert!(rt; held(code, &cpu, &port) == old & kept, "{code}");
+        assert!(rt; has_bits(code, kept), "{code}");
+        assert!(rt; goes_and_comes(code, kept, &mut port, &untouched), "{code}");
     }
     Ok(())
 }
 
-/// Words, SFC and DFC, whether a write is refused, its space, and A2 after.
+/// An instruction with an operand that is refused, and whether that is a write, in which space, and A2 then.
+struct Refused {
+    words: &'static [u16],
+    sfc: u8,
+    dfc: u8,
+    write: bool,
+    space: Space,
+    a2: u32,
+}
+
+macro_rules! refused {
+    ([$($word:literal),*], $sfc:literal, $dfc:literal, $write:literal, $space:expr, $a2:literal) => {
+        Refused { words: &[$($word),*], sfc: $sfc, dfc: $dfc, write: $write, space: $space, a2: $a2 }
+    };
+}
+
 #[rattlefmt::skip]
-static REFUSED: [(&[u16], [u8; 2], bool, Space, u32); 9] = [
-    (&[0x0E52, 0x1000], [1, 5], false, Space::User, 0x3000),
-    (&[0x0E52, 0x1000], [5, 1], false, Space::Super, 0x3000),
-    (&[0x0E5A, 0x1000], [3, 7], false, Space::User, 0x3000),
-    (&[0x0E52, 0x1800], [1, 5], true, Space::Super, 0x3000),
-    (&[0x0E5A, 0x1800], [5, 1], true, Space::User, 0x3002),
-    (&[0x0E72, 0x1000, 0x0151], [1, 1], false, Space::Super, 0x3000),
-    (&[0x46D2], [1, 1], false, Space::Super, 0x3000),
-    (&[0x46DA], [1, 1], false, Space::Super, 0x3000),
-    (&[0x40DA], [1, 1], true, Space::Super, 0x3002),
+static REFUSED: [Refused; 9] = [
+    refused!([0x0E52, 0x1000], 1, 5, false, Space::User, 0x3000),
+    refused!([0x0E52, 0x1000], 5, 1, false, Space::Super, 0x3000),
+    refused!([0x0E5A, 0x1000], 3, 7, false, Space::User, 0x3000),
+    refused!([0x0E52, 0x1800], 1, 5, true, Space::Super, 0x3000),
+    refused!([0x0E5A, 0x1800], 5, 1, true, Space::User, 0x3002),
+    refused!([0x0E72, 0x1000, 0x0151], 1, 1, false, Space::Super, 0x3000),
+    refused!([0x46D2], 1, 1, false, Space::Super, 0x3000),
+    refused!([0x46DA], 1, 1, false, Space::Super, 0x3000),
+    refused!([0x40DA], 1, 1, true, Space::Super, 0x3002),
 ];
 
-#[test]
-fn refused_in_their_spaces(rt: HostRuntime) -> Result<(), AllocError> {
-    for &(words, [sfc, dfc], write, space, a2) in &REFUSED {
-        let mut port = memory(rt.alloc())?;
+impl Refused {
+    /// The processor before the instruction.
+    fn before(&self) -> Cpu {
         let mut cpu = supervisor();
-        cpu.sfc = sfc;
-        cpu.dfc = dfc;
-        let mut wanted = cpu;
-        wanted.regs.a[2] = a2;
-        wanted.regs.pc = AT.wrapping_add(2 * words.len() as u32);
-        let refused = match performed(words, &mut cpu, &mut port) {
+        cpu.sfc = self.sfc;
+        cpu.dfc = self.dfc;
+        cpu
+    }
+
+    /// The processor after it.
+    fn after(&self) -> Cpu {
+        let mut cpu = self.before();
+        cpu.regs.a[2] = self.a2;
+        cpu.regs.pc = behind(self.words);
+        cpu
+    }
+
+    /// Whether the operand is refused as it should be.
+    fn passes(&self, port: &mut VectorPort) -> bool {
+        let mut cpu = self.before();
+        let refused = match performed(self.words, &mut cpu, port) {
             Some(Ended::ReadFault(refused)) => Some((false, refused.fault.space, refused.first)),
             Some(Ended::WriteFault(refused)) => Some((true, refused.fault.space, refused.first)),
             _ => None,
         };
-        assert!(rt; refused == Some((write, space, 0x3000)), "{words:?}");
-        assert!(rt; cpu == wanted, "{words:?}");
+        refused == Some((self.write, self.space, 0x3000)) && cpu == self.after()
+    }
+}
+
+#[test]
+fn refused_in_their_spaces(rt: HostRuntime) -> Result<(), AllocError> {
+    for row in &REFUSED {
+        let mut port = memory(rt.alloc())?;
+        let words = row.words;
+        assert!(rt; row.passes(&mut port), "{words:?}");
     }
     Ok(())
 }

@@ -6,7 +6,6 @@ use mb_listing::list_memory;
 use mb_outside::{MemSink, SinkFault};
 use std::alloc::Global;
 use std::process::Abort;
-use std::test::Fail;
 
 /// How many bytes each memory here has.
 const SIZE: u32 = 0x1_0000;
@@ -443,24 +442,27 @@ fn list(ram: &[u8], at: u32, count: u32, out: &mut MemSink) -> Result<(), SinkFa
 }
 
 /// The text of that listing.
-fn listed(alloc: Global, ram: &[u8], at: u32, count: u32) -> Result<Vec<u8>, Fail> {
-    let mut out = MemSink::new(alloc, 0x1000, Vec::new(alloc))?;
-    list(ram, at, count, &mut out)?;
-    Ok(Vec::from_slice(alloc, out.bytes())?)
+fn listed(alloc: Global, ram: &[u8], at: u32, count: u32) -> Option<Vec<u8>> {
+    let mut out = MemSink::new(alloc, 0x1000, Vec::new(alloc)).ok()?;
+    list(ram, at, count, &mut out).ok()?;
+    Vec::from_slice(alloc, out.bytes()).ok()
 }
 
-/// The bytes that a statement gives where the statements of the table stand.
-fn assembled(alloc: Global, text: &[u8]) -> Result<Vec<u8>, Fail> {
-    let mut source = Vec::from_slice(alloc, b" ORG $1000\n ")?;
-    source.extend_from_slice(text)?;
+/// A source with a statement where the statements of the table stand.
+fn source_of(alloc: Global, text: &[u8]) -> Option<Vec<u8>> {
+    let mut source = Vec::from_slice(alloc, b" ORG $1000\n ").ok()?;
+    source.extend_from_slice(text).ok()?;
+    Some(source)
+}
+
+/// Whether a statement gives exactly these bytes there.
+fn gives(alloc: Global, text: &[u8], words: &[u8]) -> Option<bool> {
+    let source = source_of(alloc, text)?;
     if source.len() >= 1 << 31 {
-        return Err("too long".into());
+        return None;
     }
-    let image = assemble(alloc, &source)?;
-    match image.chunks() {
-        [chunk] => Ok(Vec::from_slice(alloc, chunk.bytes())?),
-        _ => Err("not one chunk".into()),
-    }
+    let image = assemble(alloc, &source).ok()?;
+    Some(matches!(image.chunks(), [chunk] if chunk.bytes() == words))
 }
 
 /// What stands behind the address and the words of a line.
@@ -471,46 +473,61 @@ fn text_of<'a>(line: &'a [u8], words: &[u8]) -> &'a [u8] {
     }
 }
 
+/// Whether the line in memory is that of a statement, which gives its words again.
+fn is_listed(alloc: Global, ram: &[u8], row: &Row) -> Option<bool> {
+    let line = listed(alloc, ram, AT, 1)?;
+    let text = text_of(&line, row.words);
+    Some(text == row.text && gives(alloc, text, row.words)?)
+}
+
+/// Memory of zeros.
+fn zeros(alloc: Global) -> Option<Vec<u8>> {
+    vec![in alloc; 0u8; SIZE as usize].ok()
+}
+
 /// Each statement is listed as it stands in its table, and gives its words again.
-fn check_rows(rt: &impl Abort, alloc: Global, rows: &[Row]) -> Result<(), Fail> {
-    let mut ram = vec![in alloc; 0u8; SIZE as usize]?;
+fn check_rows(rt: &impl Abort, alloc: Global, rows: &[Row]) {
+    let mut ram = zeros(alloc).expect(rt, "memory");
     for row in rows {
         put(&mut ram, AT, row.words);
-        let line = listed(alloc, &ram, AT, 1)?;
-        let text = text_of(&line, row.words);
-        assert!(rt; text == row.text);
-        let words = assembled(alloc, text)?;
-        assert!(rt; words.as_slice() == row.words, "{:?}", row.text);
+        assert!(rt; is_listed(alloc, &ram, row) == Some(true), "{:?}", row.text);
     }
-    Ok(())
 }
 
 #[test]
-fn statements(rt: HostRuntime) -> Result<(), Fail> {
+fn statements(rt: HostRuntime) {
     let tables: [&[Row]; 16] = [
         &A_FIRST, &A_REST, &B_FIRST, &B_REST, &C_FIRST, &C_REST, &D_AND_E, &J_AND_L, &M_FIRST,
         &M_SECOND, &M_REST, &N_TO_P, &R, &S_TO_U, &MODES, &BYTES,
     ];
     for rows in tables {
-        check_rows(&rt, rt.alloc(), rows)?;
+        check_rows(&rt, rt.alloc(), rows);
     }
-    Ok(())
+}
+
+/// Whether memory is listed as it should be.
+fn is_text(alloc: Global, ram: &[u8], listing: &Listing) -> Option<bool> {
+    let lines = listed(alloc, ram, listing.at, listing.count)?;
+    Some(lines.as_slice() == listing.text)
+}
+
+/// Whether a sink with no more room than for the first line takes as much, and the listing says so.
+fn is_cut(alloc: Global, ram: &[u8], listing: &Listing) -> Option<bool> {
+    let mut out = MemSink::new(alloc, 30, Vec::new(alloc)).ok()?;
+    let refused = list(ram, listing.at, listing.count, &mut out) == Err(SinkFault);
+    Some(refused && Some(out.bytes()) == listing.text.get(..30))
 }
 
 #[test]
-fn listings(rt: HostRuntime) -> Result<(), Fail> {
+fn listings(rt: HostRuntime) {
     for listing in &LISTINGS {
-        let mut ram = vec![in rt.alloc(); 0u8; SIZE as usize]?;
+        let mut ram = zeros(rt.alloc()).expect(&rt, "memory");
         put(&mut ram, listing.place, listing.bytes);
-        let lines = listed(rt.alloc(), &ram, listing.at, listing.count)?;
-        assert!(rt; lines.as_slice() == listing.text, "{:?}", listing.text);
+        let is = is_text(rt.alloc(), &ram, listing);
+        assert!(rt; is == Some(true), "{:?}", listing.text);
     }
-    // No more room than for the first line.
     let program = &LISTINGS[0];
-    let mut ram = vec![in rt.alloc(); 0u8; SIZE as usize]?;
+    let mut ram = zeros(rt.alloc()).expect(&rt, "memory");
     put(&mut ram, program.place, program.bytes);
-    let mut out = MemSink::new(rt.alloc(), 30, Vec::new(rt.alloc()))?;
-    assert!(rt; list(&ram, program.at, program.count, &mut out) == Err(SinkFault));
-    assert!(rt; Some(out.bytes()) == program.text.get(..30));
-    Ok(())
+    assert!(rt; is_cut(rt.alloc(), &ram, program) == Some(true));
 }

@@ -13,7 +13,6 @@ use mb_outside::{MemShelf, MemSink};
 use mb_program::run_program;
 use std::alloc::Global;
 use std::process::Abort;
-use std::test::Fail;
 
 /// A program of three instructions: it prints one character and switches the machine off.
 const HELLO: &[u8] = b"S10B00000001000000000400EF\n\
@@ -46,6 +45,23 @@ struct Ran {
     native: Native,
 }
 
+impl Ran {
+    /// Whether it left this status, and exactly this on out and on diag.
+    fn is(&self, status: u8, out: &[u8], diag: &[u8]) -> bool {
+        self.status == status && self.out.bytes() == out && self.diag.bytes() == diag
+    }
+
+    /// Whether out has all of these parts.
+    fn has(&self, parts: &[&[u8]]) -> bool {
+        for part in parts {
+            if !contains(self.out.bytes(), part) {
+                return false;
+            }
+        }
+        true
+    }
+}
+
 /// Sinks and a shelf that fail: at which call, and 0 for never.
 #[derive(Clone, Copy)]
 struct Failing {
@@ -76,8 +92,22 @@ fn split_words(alloc: Global, line: &str) -> Option<Vec<String>> {
     Some(words)
 }
 
+/// These texts, one behind the other.
+fn joined(alloc: Global, parts: &[&str]) -> Option<String> {
+    let mut text = String::new(alloc);
+    for part in parts {
+        text.push_str(part).ok()?;
+    }
+    Some(text)
+}
+
 fn file(alloc: Global, name: &str, bytes: Vec<u8>) -> Option<(String, Vec<u8>)> {
     Some((String::from_str(alloc, name).ok()?, bytes))
+}
+
+/// A file with these bytes.
+fn file_of(alloc: Global, name: &str, bytes: &[u8]) -> Option<(String, Vec<u8>)> {
+    file(alloc, name, Vec::from_slice(alloc, bytes).ok()?)
 }
 
 /// A shelf with the files `hello.s19` and `typed.txt`.
@@ -91,18 +121,34 @@ fn shelf(alloc: Global, image: Vec<u8>, script: Vec<u8>, fails: u64) -> Option<M
 /// A run of the words of a line over a shelf.
 fn run_over(alloc: Global, line: &str, shelf: &mut MemShelf, failing: Failing) -> Option<Ran> {
     let words = split_words(alloc, line)?;
-    let fails = Vec::from_slice(alloc, &[failing.out]).ok()?;
-    let mut out = MemSink::new(alloc, failing.room, fails).ok()?;
-    let fails = Vec::from_slice(alloc, &[failing.diag]).ok()?;
-    let mut diag = MemSink::new(alloc, 2000, fails).ok()?;
+    let out = sink(alloc, failing.room, failing.out)?;
+    let diag = sink(alloc, 2000, failing.diag)?;
+    Some(run_words(alloc, &words, shelf, out, diag))
+}
+
+/// A sink with so much room, which fails at one call.
+fn sink(alloc: Global, room: usize, fails: u64) -> Option<MemSink> {
+    let fails = Vec::from_slice(alloc, &[fails]).ok()?;
+    MemSink::new(alloc, room, fails).ok()
+}
+
+/// A run of words.
+fn run_words(
+    alloc: Global,
+    words: &[String],
+    shelf: &mut MemShelf,
+    out: MemSink,
+    diag: MemSink,
+) -> Ran {
+    let (mut out, mut diag) = (out, diag);
     let mut native = Native::new();
-    let status = run_program(alloc, &words, shelf, &mut out, &mut diag, &mut native);
-    Some(Ran {
+    let status = run_program(alloc, words, shelf, &mut out, &mut diag, &mut native);
+    Ran {
         status,
         out,
         diag,
         native,
-    })
+    }
 }
 
 fn run(
@@ -346,24 +392,24 @@ S9030000FC\n",
     },
 ];
 
+/// A run of a row.
+fn run_row(alloc: Global, row: &Row) -> Option<Ran> {
+    let parts = [
+        "mbx bare hello.s19 --ram 64 --steps ",
+        row.steps,
+        " --script typed.txt",
+    ];
+    let words = joined(alloc, &parts)?;
+    run_both(alloc, &words, row.image, row.script, NOTHING)
+}
+
 #[test]
-fn machines_run(rt: HostRuntime) -> Result<(), Fail> {
+fn machines_run(rt: HostRuntime) {
     for row in &ROWS {
-        let words = format!(in rt.alloc();
-            "mbx bare hello.s19 --ram 64 --steps {} --script typed.txt",
-            row.steps
-        )?;
-        let ran = run_both(rt.alloc(), &words, row.image, row.script, NOTHING).expect(
-            &rt,
-            "ample memory",
-        );
-        assert!(rt; ran.status == 0, "{}", row.what);
-        assert!(rt; ran.diag.bytes().is_empty(), "{}", row.what);
-        for line in row.lines {
-            assert!(rt; contains(ran.out.bytes(), line), "{}", row.what);
-        }
+        let ran = run_row(rt.alloc(), row).expect(&rt, "ample memory");
+        let runs = ran.status == 0 && ran.diag.bytes().is_empty();
+        assert!(rt; runs && ran.has(row.lines), "{}", row.what);
     }
-    Ok(())
 }
 
 /// Lines of words by what they have in common, and what comes of each.
@@ -599,9 +645,8 @@ static WORDS: [Words; 9] = [
 fn check_words(rt: &impl Abort, alloc: Global, words: &Words) {
     for line in words.lines {
         let ran = run_text(alloc, line, HELLO, NOTHING).expect(rt, "ample memory");
-        assert!(rt; ran.status == words.status, "{}: {line}", words.what);
-        assert!(rt; ran.out.bytes() == words.out, "{}: {line}", words.what);
-        assert!(rt; ran.diag.bytes() == words.diag, "{}: {line}", words.what);
+        let is = ran.is(words.status, words.out, words.diag);
+        assert!(rt; is, "{line}");
     }
 }
 
@@ -730,41 +775,47 @@ static ENDINGS: [Ending; 48] = [
     },
 ];
 
+/// A run that is to end.
+fn run_ending(alloc: Global, ending: &Ending) -> Option<Ran> {
+    run_both(alloc, ending.words, ending.image, ending.script, NOTHING)
+}
+
 /// A file that is malformed or cannot be read ends the run; of two such files, the first does.
 #[test]
 fn a_file_ends_the_run(rt: HostRuntime) {
     for ending in &ENDINGS {
-        let ran = run_both(
-            rt.alloc(),
-            ending.words,
-            ending.image,
-            ending.script,
-            NOTHING,
-        )
-        .expect(&rt, "ample memory");
-        assert!(rt; ran.status == ending.status, "{:?}", ending.line);
-        assert!(rt;
-            ran.diag.bytes() == ending.line.as_bytes(),
-            "{:?}",
-            ending.line
-        );
-        assert!(rt; ran.out.bytes().is_empty(), "{:?}", ending.line);
+        let ran = run_ending(rt.alloc(), ending).expect(&rt, "ample memory");
+        let is = ran.is(ending.status, b"", ending.line.as_bytes());
+        assert!(rt; is, "{}", ending.line);
     }
 }
 
+/// A file that is too long.
+fn long_file(alloc: Global) -> Option<Vec<u8>> {
+    vec![in alloc; b'\n'; 67_108_865].ok()
+}
+
+/// A run of an image that is too long.
+fn run_long_image(alloc: Global) -> Option<Ran> {
+    run(
+        alloc,
+        HELLO_WORDS,
+        long_file(alloc)?,
+        Vec::new(alloc),
+        NOTHING,
+    )
+}
+
+/// A run of a script that is too long.
+fn run_long_script(alloc: Global) -> Option<Ran> {
+    let image = Vec::from_slice(alloc, HELLO).ok()?;
+    run(alloc, SCRIPT_WORDS, image, long_file(alloc)?, NOTHING)
+}
+
 #[test]
-fn a_file_has_a_greatest_length(rt: HostRuntime) -> Result<(), Fail> {
-    let long = vec![in rt.alloc(); b'\n'; 67_108_865]?;
-    let none = Vec::new(rt.alloc());
-    let ran = run(rt.alloc(), HELLO_WORDS, long, none, NOTHING).expect(&rt, "ample memory");
-    assert!(rt; ran.status == 3);
-    assert!(rt; ran.diag.bytes() == b"mbx: hello.s19 too long\n".as_slice());
-    assert!(rt; ran.out.bytes().is_empty());
-    let image = Vec::from_slice(rt.alloc(), HELLO)?;
-    let long = vec![in rt.alloc(); b'\n'; 67_108_865]?;
-    let ran = run(rt.alloc(), SCRIPT_WORDS, image, long, NOTHING).expect(&rt, "ample memory");
-    assert!(rt; ran.status == 3);
-    assert!(rt; ran.diag.bytes() == b"mbx: typed.txt too long\n".as_slice());
-    assert!(rt; ran.out.bytes().is_empty());
-    Ok(())
+fn a_file_has_a_greatest_length(rt: HostRuntime) {
+    let image = run_long_image(rt.alloc()).expect(&rt, "ample memory");
+    assert!(rt; image.is(3, b"", b"mbx: hello.s19 too long\n"));
+    let script = run_long_script(rt.alloc()).expect(&rt, "ample memory");
+    assert!(rt; script.is(3, b"", b"mbx: typed.txt too long\n"));
 }

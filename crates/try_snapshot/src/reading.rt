@@ -2,10 +2,10 @@
 
 use mb_model::{Kept, RunState};
 use mb_port::Space;
-use mb_saved::RamLine;
-use mb_script::{Entry, Input};
+use mb_saved::{RamLine, SavedGuest};
+use mb_script::{Entry, Input, Script};
 use std::alloc::Global;
-use vm_snapshot::{SnapFault, SnapPlan, read_snapshot};
+use vm_snapshot::{SnapFault, SnapGuest, SnapPlan, read_snapshot};
 
 /// A guest of 64 KiB after two steps.
 const TEXT: &str =
@@ -216,46 +216,65 @@ fn tells_the_first_fault(rt: HostRuntime) {
     }
 }
 
+/// Whether a guest's machine is as the text has it.
+fn is_saved(saved: &SavedGuest) -> bool {
+    let regs = &saved.cpu().regs;
+    (saved.ram(), saved.steps(), saved.state()) == (0x1_0000, 2, RunState::Running)
+        && (regs.pc, regs.sr, regs.isp) == (0x408, 0x2700, 0x1_0000)
+        && saved.kept() == KEPT_ENTRIES.as_slice()
+        && saved.console() == b"A".as_slice()
+        && saved.lines().len() == 3
+        && saved.lines().first() == Some(&FIRST_LINE)
+}
+
+/// Whether what is still to come is as the text has it.
+fn is_to_come(script: &Script) -> bool {
+    let byte = Entry {
+        step: 3,
+        input: Input::Byte(0x42),
+    };
+    let abort = Entry {
+        step: 4,
+        input: Input::Abort,
+    };
+    script.count() == 3 && script.entry(1) == Some(byte) && script.entry(2) == Some(abort)
+}
+
+/// Whether a guest's disk is as the text has it.
+fn has_disk(guest: &SnapGuest) -> bool {
+    let Some(disk) = &guest.disk else {
+        return false;
+    };
+    let bytes = disk.bytes();
+    (disk.blocks(), disk.block(), disk.outcome(), disk.position()) == (1, 7, 1, 0x1fc)
+        && disk.buffer().first() == Some(&0xab)
+        && bytes.get(0x1f0) == Some(&0)
+        && bytes.get(0x1ff) == Some(&1)
+}
+
+/// Whether a plan is as the text has it.
+fn is_plan(plan: &SnapPlan) -> bool {
+    match plan.guests.as_slice() {
+        [guest] => {
+            (plan.board, plan.slice) == (192, 1000)
+                && is_saved(&guest.saved)
+                && is_to_come(&guest.script)
+                && has_disk(guest)
+        }
+        _ => false,
+    }
+}
+
+/// The text of a guest with a disk, which keeps entries.
+fn text_with_disk(alloc: Global) -> Option<Vec<u8>> {
+    let (front, back) = TEXT.split_once("kept 0\ninput 0\n")?;
+    whole(alloc, &[front, KEPT, back, DISK])
+}
+
 /// What is kept, what is still to come, the machine, and its disk.
 #[test]
 fn reads_a_guest(rt: HostRuntime) {
-    let alloc: Global = rt.alloc();
-    let (front, back) = TEXT
-        .split_once("kept 0\ninput 0\n")
-        .expect(&rt, "a part of the text");
-    let text = whole(alloc, &[front, KEPT, back, DISK]).expect(&rt, "ample memory");
-    let plan = plan(alloc, &text).expect(&rt, "a short text");
-    let plan = plan.ok().expect(&rt, "a snapshot");
-    assert!(rt; (plan.board, plan.slice, plan.guests.len()) == (192, 1000, 1));
-    let guest = &plan.guests[0];
-    let saved = &guest.saved;
-    assert!(rt; (saved.ram(), saved.steps(), saved.state()) == (0x1_0000, 2, RunState::Running));
-    assert!(rt;
-        (
-            saved.cpu().regs.pc,
-            saved.cpu().regs.sr,
-            saved.cpu().regs.isp
-        ) == (0x408, 0x2700, 0x1_0000)
-    );
-    assert!(rt; saved.kept() == KEPT_ENTRIES.as_slice());
-    assert!(rt; saved.console() == b"A".as_slice());
-    assert!(rt; saved.lines().len() == 3 && saved.lines()[0] == FIRST_LINE);
-    assert!(rt; guest.script.count() == 3);
-    assert!(rt;
-        guest.script.entry(1)
-            == Some(Entry {
-                step: 3,
-                input: Input::Byte(0x42)
-            })
-    );
-    assert!(rt;
-        guest.script.entry(2)
-            == Some(Entry {
-                step: 4,
-                input: Input::Abort
-            })
-    );
-    let disk = guest.disk.as_ref().expect(&rt, "a disk");
-    assert!(rt; (disk.blocks(), disk.block(), disk.outcome(), disk.position()) == (1, 7, 1, 0x1fc));
-    assert!(rt; (disk.buffer()[0], disk.bytes()[0x1f0], disk.bytes()[0x1ff]) == (0xab, 0, 1));
+    let text = text_with_disk(rt.alloc()).expect(&rt, "a text");
+    let plan = plan(rt.alloc(), &text).expect(&rt, "a short text");
+    assert!(rt; is_plan(&plan.ok().expect(&rt, "a snapshot")));
 }

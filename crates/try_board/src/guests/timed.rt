@@ -3,24 +3,25 @@
 use super::{NONE, Pair};
 use crate::shown::{Chunk, RESET};
 use TurnEnd::Counted;
-use mb_report::same;
 use std::alloc::Global;
 use vm_guest::{Counts, TurnEnd};
 
-/// What a guest counts of a number of steps, and the trail of those that the board carried out. Of its reads the first
-/// fetch alone is filled.
-fn counts_of(alloc: Global, chunks: &[Chunk], turns: &[u32]) -> Option<(Counts, u64)> {
-    let mut pair = Pair::new(alloc, chunks, b"")?;
+/// Takes turns of a guest, and as many steps of the bare board. Whether all of them are counted, both show the same,
+/// and of the guest's reads the first fetch alone was filled.
+fn takes_turns(pair: &mut Pair, turns: &[u32]) -> bool {
     for steps in turns {
         if pair.turn(*steps) != Some(Counted) {
-            return None;
+            return false;
         }
         pair.run_bare(*steps);
     }
-    (pair.is_counted(1) && same(&pair.outcome(), &pair.bare.outcome())).then_some((
-        pair.guest.counts(),
-        pair.native.trail(),
-    ))
+    pair.is_counted(1) && pair.is_same()
+}
+
+/// What a guest counts of a number of steps, and the trail of those that the board carried out.
+fn counts_of(alloc: Global, chunks: &[Chunk], turns: &[u32]) -> Option<(Counts, u64)> {
+    let mut pair = Pair::new(alloc, chunks, b"")?;
+    takes_turns(&mut pair, turns).then_some((pair.guest.counts(), pair.native.trail()))
 }
 
 /// The timer asks at every eleventh step, and each entry acknowledges it and goes back.
@@ -121,20 +122,24 @@ static TIMED: [Timed; 3] = [
     },
 ];
 
+/// Whether all turns of a machine count the same, and have the same trail.
+fn counts_the_same(alloc: Global, case: &Timed) -> Option<bool> {
+    let mut trail = None;
+    for turns in case.turns {
+        let (counts, after) = counts_of(alloc, case.chunks, turns)?;
+        if counts != case.counts || (trail != None && trail != Some(after)) {
+            return Some(false);
+        }
+        trail = Some(after);
+    }
+    Some(true)
+}
+
 /// An interrupt in each position of a batch, and behind STOP: turns of whatever length show the same, count the same
 /// and have the same trail.
 #[test]
 fn turns_of_any_length_count_the_same(rt: HostRuntime) {
     for case in &TIMED {
-        let mut trail = None;
-        for turns in case.turns {
-            let (counts, after) = counts_of(rt.alloc(), case.chunks, turns).expect(
-                &rt,
-                "ample memory",
-            );
-            assert!(rt; counts == case.counts);
-            assert!(rt; trail == None || trail == Some(after));
-            trail = Some(after);
-        }
+        assert!(rt; counts_the_same(rt.alloc(), case) == Some(true));
     }
 }

@@ -3,6 +3,7 @@
 use super::{ACCESS_ERROR, ILLEGAL, LONGS, TIMER, processor};
 use crate::steps::{NO_HOLE, put_longs, stands};
 use mb_entry::{Cause, Entered, enter};
+use mb_model::Cpu;
 use mb_port::{Fault, Space};
 use std::alloc::AllocError;
 use try_vector::VectorPort;
@@ -127,34 +128,46 @@ static CASES: [Case; 13] = [
     },
 ];
 
-#[test]
-fn entries(rt: HostRuntime) -> Result<(), AllocError> {
-    for case in &CASES {
-        let (sr, isp, vbr) = case.before;
+impl Case {
+    /// The processor before the entry, but for the stopped state.
+    fn before(&self) -> Cpu {
+        let (sr, isp, vbr) = self.before;
         let mut cpu = processor(sr);
         cpu.regs.isp = isp;
         cpu.vbr = vbr;
-        let (sr, pc, isp, msp) = case.after;
-        let mut wanted = cpu;
-        wanted.regs.sr = sr;
-        wanted.regs.pc = pc;
-        wanted.regs.isp = isp;
-        wanted.regs.msp = msp;
+        cpu
+    }
+
+    /// The processor after it.
+    fn after(&self) -> Cpu {
+        let (sr, pc, isp, msp) = self.after;
+        let mut cpu = self.before();
+        cpu.regs.sr = sr;
+        cpu.regs.pc = pc;
+        cpu.regs.isp = isp;
+        cpu.regs.msp = msp;
+        cpu
+    }
+
+    /// Whether the entry comes to what it should.
+    fn passes(&self, port: &mut VectorPort) -> bool {
+        let mut cpu = self.before();
         cpu.stopped = true;
+        let master = self.master;
+        put_longs(port, self.vector.0, self.vector.1);
+        self.cause.level < 8
+            && enter(&mut cpu, port, &self.cause) == self.end
+            && cpu == self.after()
+            && stands(port, self.frame.0, self.frame.1)
+            && stands(port, 0x8FF8, master)
+    }
+}
+
+#[test]
+fn entries(rt: HostRuntime) -> Result<(), AllocError> {
+    for case in &CASES {
         let mut port = VectorPort::new(rt.alloc(), LONGS, case.hole)?;
-        let (at, longs) = case.vector;
-        put_longs(&mut port, at, longs);
-        assert!(rt; case.cause.level < 8);
-        assert!(rt;
-            enter(&mut cpu, &mut port, &case.cause) == case.end,
-            "{}",
-            case.name
-        );
-        assert!(rt; cpu == wanted, "{}", case.name);
-        let (at, longs) = case.frame;
-        assert!(rt; stands(&port, at, longs), "{}", case.name);
-        let master = case.master;
-        assert!(rt; stands(&port, 0x8FF8, master), "{}", case.name);
+        assert!(rt; case.passes(&mut port), "{}", case.name);
     }
     Ok(())
 }

@@ -1,15 +1,13 @@
 //! Returns.
 
-ghost use Rattle.std.specs.Prelude.{◌<◌};
-
 use super::{ACCESS_ERROR, FIELDS, ILLEGAL, LONGS, TIMER, processor};
 use crate::steps::{NO_HOLE, put_longs, stands};
 use mb_entry::{Cause, Entered, enter, return_from, return_held};
 use mb_frames::Access;
+use mb_model::Cpu;
 use mb_port::{Fault, Space};
 use mb_writes::{Ended, MovemFault};
 use std::alloc::AllocError;
-use std::process::Abort;
 use try_vector::VectorPort;
 
 const WENT: Ended = Ended::Done { flow: true };
@@ -19,26 +17,29 @@ const FORMAT_ERROR: Ended = Ended::Refused(14);
 /// Status registers.
 static STATUS: [u16; 6] = [0x2700, 0x3000, 0x0000, 0x901F, 0x6015, 0x8000];
 
-/// Enters and returns with each of these status registers, which leaves the processor as it was; of an access error the
-/// return holds the fields and PC, and of other frames nothing.
-fn go_and_come(rt: &impl Abort, cause: &Cause, port: &mut VectorPort)
-    requires { cause.now.level < 8 }
-{
-    for &sr in &STATUS {
-        let before = processor(sr);
-        let mut cpu = before;
-        assert!(rt; enter(&mut cpu, port, cause) == Entered::Done);
-        assert!(rt; return_from(&mut cpu, port) == WENT);
-        assert!(rt; cpu == before);
-        let (mut held, mut at, pc) = match cause.access {
-            Some(_) => (Access::default(), 7, 0x400),
-            None => (FIELDS, 7, 7),
-        };
-        assert!(rt; enter(&mut cpu, port, cause) == Entered::Done);
-        assert!(rt; return_held(&mut cpu, port, &mut held, &mut at) == WENT);
-        assert!(rt; cpu == before);
-        assert!(rt; (held, at) == (FIELDS, pc));
-    }
+/// Enters and returns with a status register, which leaves the processor as it was. Whether it does.
+fn comes_back(sr: u16, cause: &Cause, port: &mut VectorPort) -> bool {
+    let before = processor(sr);
+    let mut cpu = before;
+    cause.level < 8
+        && enter(&mut cpu, port, cause) == Entered::Done
+        && return_from(&mut cpu, port) == WENT
+        && cpu == before
+}
+
+/// Whether, as well, the return holds the fields and PC of an access error, and of other frames nothing.
+fn comes_back_held(sr: u16, cause: &Cause, port: &mut VectorPort) -> bool {
+    let (mut held, mut at, pc) = match cause.access {
+        Some(_) => (Access::default(), 7, 0x400),
+        None => (FIELDS, 7, 7),
+    };
+    let before = processor(sr);
+    let mut cpu = before;
+    cause.level < 8
+        && enter(&mut cpu, port, cause) == Entered::Done
+        && return_held(&mut cpu, port, &mut held, &mut at) == WENT
+        && cpu == before
+        && (held, at) == (FIELDS, pc)
 }
 
 /// A cause of each frame, a zero divide and a trap among them.
@@ -61,8 +62,9 @@ static CAUSES: [Cause; 5] = [
 fn each_frame_there_and_back(rt: HostRuntime) -> Result<(), AllocError> {
     let mut port = VectorPort::new(rt.alloc(), LONGS, NO_HOLE)?;
     for cause in &CAUSES {
-        assert!(rt; cause.level < 8);
-        go_and_come(&rt, cause, &mut port);
+        for &sr in &STATUS {
+            assert!(rt; comes_back(sr, cause, &mut port) && comes_back_held(sr, cause, &mut port));
+        }
     }
     Ok(())
 }
@@ -106,23 +108,34 @@ static FRAMES: [Frames; 6] = [
     },
 ];
 
+impl Frames {
+    /// The processor after the return, and how it ends.
+    fn wanted(&self) -> (Cpu, Ended) {
+        let mut cpu = processor(self.sr);
+        let Some((sr, pc, isp)) = self.after else {
+            return (cpu, FORMAT_ERROR);
+        };
+        cpu.regs.sr = sr;
+        cpu.regs.pc = pc;
+        cpu.regs.isp = isp;
+        (cpu, WENT)
+    }
+
+    /// Whether the return comes to what it should.
+    fn passes(&self, port: &mut VectorPort) -> bool {
+        put_longs(port, 0x8000, &self.interrupt);
+        put_longs(port, 0x9000, &self.master);
+        let mut cpu = processor(self.sr);
+        let end = return_from(&mut cpu, port);
+        (cpu, end) == self.wanted()
+    }
+}
+
 #[test]
 fn short_and_throwaway_frames(rt: HostRuntime) -> Result<(), AllocError> {
     for frames in &FRAMES {
         let mut port = VectorPort::new(rt.alloc(), LONGS, NO_HOLE)?;
-        put_longs(&mut port, 0x8000, &frames.interrupt);
-        put_longs(&mut port, 0x9000, &frames.master);
-        let mut cpu = processor(frames.sr);
-        let mut wanted = cpu;
-        let mut end = FORMAT_ERROR;
-        if let Some((sr, pc, isp)) = frames.after {
-            wanted.regs.sr = sr;
-            wanted.regs.pc = pc;
-            wanted.regs.isp = isp;
-            end = WENT;
-        }
-        assert!(rt; return_from(&mut cpu, &mut port) == end, "{}", frames.name);
-        assert!(rt; cpu == wanted, "{}", frames.name);
+        assert!(rt; frames.passes(&mut port), "{}", frames.name);
     }
     Ok(())
 }
@@ -136,22 +149,26 @@ static HOLES: [(u32, u32); 5] = [
     (0x803B, 0x8038),
 ];
 
+/// Whether a return by a frame of an access error is refused at this operand, leaves all registers, and is done where
+/// nothing refuses.
+fn is_refused(hole: u32, first: u32, port: &mut VectorPort) -> bool {
+    put_longs(port, 0x8000, &[0x2000_0000, 0x0500_7008]);
+    port.hole = hole;
+    let before = processor(0x2700);
+    let mut cpu = before;
+    let refused = match return_from(&mut cpu, port) {
+        Ended::ReadFault(refused) => refused.first == first && cpu == before,
+        _ => false,
+    };
+    port.hole = NO_HOLE;
+    refused && return_from(&mut cpu, port) == WENT && cpu.regs.isp == 0x803C
+}
+
 #[test]
 fn a_refused_read_leaves_all_registers(rt: HostRuntime) -> Result<(), AllocError> {
     for &(hole, first) in &HOLES {
         let mut port = VectorPort::new(rt.alloc(), LONGS, NO_HOLE)?;
-        put_longs(&mut port, 0x8000, &[0x2000_0000, 0x0500_7008]);
-        port.hole = hole;
-        let before = processor(0x2700);
-        let mut cpu = before;
-        match return_from(&mut cpu, &mut port) {
-            Ended::ReadFault(refused) => assert!(rt; refused.first == first),
-            _ => assert!(rt; false),
-        }
-        assert!(rt; cpu == before);
-        port.hole = NO_HOLE;
-        assert!(rt; return_from(&mut cpu, &mut port) == WENT);
-        assert!(rt; cpu.regs.isp == 0x803C);
+        assert!(rt; is_refused(hole, first, &mut port), "{hole:x}");
     }
     Ok(())
 }
@@ -216,37 +233,52 @@ static MOVEMS: [Movem; 3] = [
     },
 ];
 
+impl Movem {
+    /// The processor after the return.
+    fn wanted(&self) -> Cpu {
+        let mut cpu = processor(0x2000);
+        let [d0, d1, d2, d3] = self.d;
+        let d = [d0, d1, d2, d3, 0xD4, 0xD5, 0xD6, 0xD7];
+        cpu.regs.d = d;
+        cpu.regs.a[0] = self.a0;
+        cpu.regs.pc = self.pc;
+        cpu.regs.isp = 0x803C;
+        cpu
+    }
+
+    /// How the return ends.
+    fn end(&self) -> Ended {
+        match self.refused {
+            Some(refused) => Ended::Movem(refused),
+            None => WENT,
+        }
+    }
+
+    /// Puts the frame and what is to be loaded into memory.
+    fn put(&self, port: &mut VectorPort) {
+        put_longs(port, 0x8000, &interrupted(self.words, self.done));
+        put_longs(port, 0x2000, &self.loads);
+        port.hole = self.hole;
+    }
+
+    /// Whether the return comes to what it should.
+    fn passes(&self, port: &mut VectorPort) -> bool {
+        let mut cpu = processor(0x2700);
+        let mut held = Access::default();
+        let mut at = 0;
+        return_held(&mut cpu, port, &mut held, &mut at) == self.end()
+            && cpu == self.wanted()
+            && (at, held.pd3, held.ssw) == (0x400, self.done, 0x1405)
+            && stands(port, 0x2000, &self.longs)
+    }
+}
+
 #[test]
 fn movems_go_on(rt: HostRuntime) -> Result<(), AllocError> {
     for movem in &MOVEMS {
         let mut port = VectorPort::new(rt.alloc(), LONGS, NO_HOLE)?;
-        put_longs(&mut port, 0x8000, &interrupted(movem.words, movem.done));
-        put_longs(&mut port, 0x2000, &movem.loads);
-        port.hole = movem.hole;
-        let mut cpu = processor(0x2700);
-        let mut wanted = cpu;
-        let [d0, d1, d2, d3] = movem.d;
-        let d = [d0, d1, d2, d3, 0xD4, 0xD5, 0xD6, 0xD7];
-        wanted.regs.d = d;
-        wanted.regs.a[0] = movem.a0;
-        wanted.regs.sr = 0x2000;
-        wanted.regs.pc = movem.pc;
-        wanted.regs.isp = 0x803C;
-        let mut held = Access::default();
-        let mut at = 0;
-        let wanted_end = match movem.refused {
-            Some(refused) => Ended::Movem(refused),
-            None => WENT,
-        };
-        let end = return_held(&mut cpu, &mut port, &mut held, &mut at);
-        assert!(rt; end == wanted_end, "{}", movem.name);
-        assert!(rt; cpu == wanted, "{}", movem.name);
-        assert!(rt;
-            (at, held.pd3, held.ssw) == (0x400, movem.done, 0x1405),
-            "{}",
-            movem.name
-        );
-        assert!(rt; stands(&port, 0x2000, &movem.longs), "{}", movem.name);
+        movem.put(&mut port);
+        assert!(rt; movem.passes(&mut port), "{}", movem.name);
     }
     Ok(())
 }
@@ -271,15 +303,18 @@ static WORDS: [(u32, u32, bool); 15] = [
     (0x4C50_000F, 0, false),
 ];
 
+/// How the return ends to a MOVEM of these words.
+fn ended(words: u32, done: u32, port: &mut VectorPort) -> Ended {
+    put_longs(port, 0x8000, &interrupted(words, done));
+    return_from(&mut processor(0x2700), port)
+}
+
 #[test]
 fn what_is_no_movem_is_a_format_error(rt: HostRuntime) -> Result<(), AllocError> {
-    for &(operation, done, lawful) in &WORDS {
+    for &(words, done, lawful) in &WORDS {
         let mut port = VectorPort::new(rt.alloc(), LONGS, NO_HOLE)?;
-        put_longs(&mut port, 0x8000, &interrupted(operation, done));
-        let mut cpu = processor(0x2700);
-        let ended = return_from(&mut cpu, &mut port);
-        assert!(rt; (ended == WENT) == lawful, "{operation:x}");
-        assert!(rt; (ended == FORMAT_ERROR) != lawful, "{operation:x}");
+        let wanted = if lawful { WENT } else { FORMAT_ERROR };
+        assert!(rt; ended(words, done, &mut port) == wanted, "{words:x}");
     }
     Ok(())
 }

@@ -13,8 +13,7 @@ use mb_entry::continues;
 use mb_frames::{Access, Frame, Pend, from_bytes};
 use mb_model::Cpu;
 use mb_step::{Decoder, StepEnd, step};
-use std::alloc::AllocError;
-use std::process::Abort;
+use std::alloc::{AllocError, Global};
 use try_vector::VectorPort;
 use vm_inject::{
     LeftOver, cause_of, finish_line, finish_movem, finish_trap, finish_writes, left_in,
@@ -52,10 +51,12 @@ fn are_pending(pending: &[Pend]) -> bool
     }
 }
 
-/// What the frame says was left to do.
-fn left(rt: &impl Abort, access: &Access) -> LeftOver {
-    assert!(rt; !continues(access) || has_transfers(access.pd2, access.pd3));
-    left_in(access)
+/// What the frame says was left to do, where it has no more transfers than the MOVEM.
+fn left(access: &Access) -> Option<LeftOver> {
+    if continues(access) && !has_transfers(access.pd2, access.pd3) {
+        return None;
+    }
+    Some(left_in(access))
 }
 
 /// The frame that the board stacked, which is taken out of memory.
@@ -90,26 +91,35 @@ fn handed(board: &Cpu, pc: u32, sr: u16) -> Cpu {
     cpu
 }
 
+/// One step, with no interrupt.
+fn take_step(decoder: &mut Decoder, cpu: &mut Cpu, port: &mut VectorPort) -> StepEnd {
+    step(decoder, cpu, port, 0)
+}
+
 /// Does what was left.
 fn go_on(
-    rt: &impl Abort,
     decoder: &mut Decoder,
     access: &Access,
     cpu: &mut Cpu,
     port: &mut VectorPort,
-) -> StepEnd {
-    match left(rt, access) {
+) -> Option<StepEnd> {
+    match left(access)? {
         LeftOver::Again => {
             *cpu = guest();
-            step(decoder, cpu, port, 0)
+            Some(take_step(decoder, cpu, port))
         }
         LeftOver::Writes { pending, first } => {
-            assert!(rt; are_pending(pending.as_slice()));
-            finish_writes(pending.as_slice(), first, cpu, port)
+            let pending = pending.as_slice();
+            if !are_pending(pending) {
+                return None;
+            }
+            Some(finish_writes(pending, first, cpu, port))
         }
         LeftOver::Line { at, line } => {
-            assert!(rt; at % 16 == 0);
-            finish_line(at, line, cpu, port)
+            if at % 16 != 0 {
+                return None;
+            }
+            Some(finish_line(at, line, cpu, port))
         }
         LeftOver::Movem {
             words,
@@ -117,10 +127,27 @@ fn go_on(
             done,
             next,
         } => {
-            assert!(rt; has_transfers(words, u32::from(done)));
-            finish_movem(words, ea, done, next, cpu, port)
+            if !has_transfers(words, u32::from(done)) {
+                return None;
+            }
+            Some(finish_movem(words, ea, done, next, cpu, port))
         }
     }
+}
+
+/// Whether a step of the guest by itself, of this code, ends so and leaves this processor and this memory.
+fn is_own(
+    decoder: &mut Decoder,
+    code: &[u16],
+    alloc: Global,
+    end: StepEnd,
+    cpu: &Cpu,
+    port: &VectorPort,
+) -> Result<bool, AllocError> {
+    let mut whole = memory(alloc, NO_HOLE, code)?;
+    let mut own = guest();
+    let own_end = take_step(decoder, &mut own, &mut whole);
+    Ok(end == own_end && *cpu == own && port.longs.as_slice() == whole.longs.as_slice())
 }
 
 /// Code, and the byte that is refused at first.
@@ -151,38 +178,35 @@ static DENIED: [Denied; 17] = [
     Denied { name: "third fetch", code: &[0x23FC, 0x1122, 0x3344, 0x0000, 0x2001], hole: 0x0405 },
 ];
 
+/// A step of the board that is refused, and the guest's processor after what was left, with the end of that.
+fn finish_denied(
+    decoder: &mut Decoder,
+    row: &Denied,
+    port: &mut VectorPort,
+) -> Option<(StepEnd, Cpu)> {
+    let mut board = processor(BOARD);
+    port.hole = row.hole;
+    let end = take_step(decoder, &mut board, port);
+    port.hole = NO_HOLE;
+    if end != StepEnd::Went {
+        return None;
+    }
+    let Frame::Access { sr, pc, access, .. } = take_frame(port, board.regs.isp)? else {
+        return None;
+    };
+    let mut cpu = handed(&board, pc, sr);
+    let end = go_on(decoder, &access, &mut cpu, port)?;
+    Some((end, cpu))
+}
+
 #[test]
 fn denied_steps(rt: HostRuntime) -> Result<(), AllocError> {
     let mut decoder = Decoder::new(rt.alloc())?;
     for row in &DENIED {
         let mut port = memory(rt.alloc(), NO_HOLE, row.code)?;
-        port.hole = row.hole;
-        let mut board = processor(BOARD);
-        assert!(rt;
-            step(&mut decoder, &mut board, &mut port, 0) == StepEnd::Went,
-            "{}",
-            row.name
-        );
-        port.hole = NO_HOLE;
-        let Some(Frame::Access { sr, pc, access, .. }) = take_frame(&mut port, board.regs.isp)
-        else {
-            panic!(rt; "{}", row.name);
-        };
-        let mut cpu = handed(&board, pc, sr);
-        let end = go_on(&rt, &mut decoder, &access, &mut cpu, &mut port);
-        let mut whole = memory(rt.alloc(), NO_HOLE, row.code)?;
-        let mut own = guest();
-        assert!(rt;
-            end == step(&mut decoder, &mut own, &mut whole, 0),
-            "{}",
-            row.name
-        );
-        assert!(rt; cpu == own, "{}", row.name);
-        assert!(rt;
-            port.longs.as_slice() == whole.longs.as_slice(),
-            "{}",
-            row.name
-        );
+        let (end, cpu) = finish_denied(&mut decoder, row, &mut port).expect(&rt, row.name);
+        let own = is_own(&mut decoder, row.code, rt.alloc(), end, &cpu, &port)?;
+        assert!(rt; own, "{}", row.name);
     }
     Ok(())
 }
@@ -197,75 +221,90 @@ static TRAPS: [(&[u16], u8); 5] = [
     (&[0x50FC], 7),
 ];
 
+/// A step of the board that traps, and the guest's processor after it was entered for the guest, with the end of that.
+fn finish_trapped(
+    decoder: &mut Decoder,
+    exit: u8,
+    port: &mut VectorPort,
+) -> Option<(StepEnd, Cpu)> {
+    let mut board = processor(BOARD);
+    if take_step(decoder, &mut board, port) != StepEnd::Went {
+        return None;
+    }
+    let frame = take_frame(port, board.regs.isp)?;
+    let (Frame::Short { sr, pc, .. } | Frame::Address { sr, pc, .. }) = frame else {
+        return None;
+    };
+    let mut cpu = handed(&board, pc, sr);
+    let end = enter_trap(&frame, exit, &mut cpu, port)?;
+    Some((end, cpu))
+}
+
+/// Enters the trap that a frame tells of, of the instruction at the code.
+fn enter_trap(frame: &Frame, exit: u8, cpu: &mut Cpu, port: &mut VectorPort) -> Option<StepEnd> {
+    let before = guest();
+    if before.regs.is_supervisor() {
+        return None;
+    }
+    let cause = cause_of(frame, exit, &before);
+    if cause.address != CODE {
+        return None;
+    }
+    Some(finish_trap(&cause, &before.regs.plain(), cpu, port))
+}
+
 #[test]
 fn trapped_steps(rt: HostRuntime) -> Result<(), AllocError> {
     let mut decoder = Decoder::new(rt.alloc())?;
-    for (code, exit) in &TRAPS {
+    for &(code, exit) in &TRAPS {
         let mut port = memory(rt.alloc(), NO_HOLE, code)?;
-        let mut board = processor(BOARD);
-        assert!(rt;
-            step(&mut decoder, &mut board, &mut port, 0) == StepEnd::Went,
-            "{}",
-            *exit
-        );
-        let Some(frame) = take_frame(&mut port, board.regs.isp) else {
-            panic!(rt; "{}", *exit);
-        };
-        let (Frame::Short { sr, pc, .. } | Frame::Address { sr, pc, .. }) = frame else {
-            panic!(rt; "{}", *exit);
-        };
-        let before = guest();
-        assert!(rt; !before.regs.is_supervisor());
-        let cause = cause_of(&frame, *exit, &before);
-        assert!(rt; cause.address == CODE, "{}", *exit);
-        let mut cpu = handed(&board, pc, sr);
-        let end = finish_trap(&cause, &before.regs.plain(), &mut cpu, &mut port);
-        let mut whole = memory(rt.alloc(), NO_HOLE, code)?;
-        let mut own = guest();
-        assert!(rt;
-            end == step(&mut decoder, &mut own, &mut whole, 0),
-            "{}",
-            *exit
-        );
-        assert!(rt; cpu == own, "{}", *exit);
-        assert!(rt;
-            port.longs.as_slice() == whole.longs.as_slice(),
-            "{}",
-            *exit
-        );
+        let (end, cpu) = finish_trapped(&mut decoder, exit, &mut port).expect(&rt, "a trap");
+        let own = is_own(&mut decoder, code, rt.alloc(), end, &cpu, &port)?;
+        assert!(rt; own, "{exit}");
     }
     Ok(())
 }
 
+/// What MOVEM.L D0-D3,(A0) at $400 to $3F8 leaves after its third transfer.
+const THREE_DONE: LeftOver = LeftOver::Movem {
+    words: 0x48D0_000F,
+    ea: 0x3F8,
+    done: 3,
+    next: 0x404,
+};
+
+/// The board's step, whose third transfer is over its words and whose fourth is refused: its processor and frame.
+fn begin_movem(decoder: &mut Decoder, port: &mut VectorPort) -> Option<(Cpu, Frame)> {
+    let mut board = processor(BOARD);
+    board.regs.a[0] = 0x3F8;
+    let end = take_step(decoder, &mut board, port);
+    port.hole = NO_HOLE;
+    if end != StepEnd::Went || !stands(port, CODE, &[0xD2D2_D2D2, 0]) {
+        return None;
+    }
+    Some((board, take_frame(port, board.regs.isp)?))
+}
+
+/// Whether the guest ends it.
+fn ends_movem(decoder: &mut Decoder, port: &mut VectorPort) -> Option<bool> {
+    let (board, frame) = begin_movem(decoder, port)?;
+    let Frame::Access { sr, pc, access, .. } = frame else {
+        return None;
+    };
+    let mut cpu = handed(&board, pc, sr);
+    let was_left = left(&access) == Some(THREE_DONE);
+    let end = go_on(decoder, &access, &mut cpu, port)?;
+    let ends = end == StepEnd::Went && (cpu.regs.sr, cpu.regs.pc) == (GUEST, 0x404);
+    Some(was_left && ends && stands(port, 0x3F8, &STORED))
+}
+
+/// What it stores.
+static STORED: [u32; 4] = [0xD0D0_D0D0, 0xD1D1_D1D1, 0xD2D2_D2D2, 0xD3D3_D3D3];
+
 #[test]
 fn a_movem_over_its_own_words(rt: HostRuntime) -> Result<(), AllocError> {
     let mut decoder = Decoder::new(rt.alloc())?;
-    // MOVEM.L D0-D3,(A0) at $400 to $3F8: the third transfer is over its words, the fourth is refused at first.
     let mut port = memory(rt.alloc(), 0x404, &[0x48D0, 0x000F])?;
-    let mut board = processor(BOARD);
-    board.regs.a[0] = 0x3F8;
-    assert!(rt; step(&mut decoder, &mut board, &mut port, 0) == StepEnd::Went);
-    port.hole = NO_HOLE;
-    assert!(rt; stands(&port, CODE, &[0xD2D2_D2D2, 0]));
-    let Some(Frame::Access { sr, pc, access, .. }) = take_frame(&mut port, board.regs.isp) else {
-        panic!(rt; "no frame of an access error");
-    };
-    let movem = LeftOver::Movem {
-        words: 0x48D0_000F,
-        ea: 0x3F8,
-        done: 3,
-        next: 0x404,
-    };
-    assert!(rt; left(&rt, &access) == movem);
-    let mut cpu = handed(&board, pc, sr);
-    assert!(rt; go_on(&rt, &mut decoder, &access, &mut cpu, &mut port) == StepEnd::Went);
-    assert!(rt; (cpu.regs.sr, cpu.regs.pc) == (GUEST, 0x404));
-    assert!(rt;
-        stands(
-            &port,
-            0x3F8,
-            &[0xD0D0_D0D0, 0xD1D1_D1D1, 0xD2D2_D2D2, 0xD3D3_D3D3]
-        )
-    );
+    assert!(rt; ends_movem(&mut decoder, &mut port) == Some(true));
     Ok(())
 }

@@ -100,48 +100,64 @@ static ROWS: [Row; 19] = [
         done: &[] },
 ];
 
+impl Row {
+    /// Whether the steps come to what they should.
+    fn passes(&self, decoder: &mut Decoder, port: &mut VectorPort) -> bool {
+        let mut cpu = processor(self.sr);
+        cpu.regs.isp = self.isp;
+        steps(decoder, self.steps, &mut cpu, port) == StepEnd::Went
+            && (cpu.regs.sr, cpu.regs.pc, cpu.regs.isp) == self.after
+            && stands(port, cpu.regs.isp, self.frame)
+            && !cpu.stopped
+            && self.is_done(&cpu, port)
+    }
+
+    /// Whether all was done that was to be done before the exception.
+    fn is_done(&self, cpu: &Cpu, port: &VectorPort) -> bool {
+        for done in self.done {
+            if !done.stands(cpu, port) {
+                return false;
+            }
+        }
+        true
+    }
+}
+
 #[test]
 fn frames_by_hand(rt: HostRuntime) -> Result<(), AllocError> {
     let mut decoder = Decoder::new(rt.alloc())?;
     for row in &ROWS {
         let mut port = memory(rt.alloc(), row.hole, row.code)?;
-        let mut cpu = processor(row.sr);
-        cpu.regs.isp = row.isp;
-        assert!(rt;
-            steps(&mut decoder, row.steps, &mut cpu, &mut port) == StepEnd::Went,
-            "{}",
-            row.name
-        );
-        assert!(rt;
-            (cpu.regs.sr, cpu.regs.pc, cpu.regs.isp) == row.after,
-            "{}",
-            row.name
-        );
-        assert!(rt; stands(&port, cpu.regs.isp, row.frame), "{}", row.name);
-        assert!(rt; !cpu.stopped, "{}", row.name);
-        for done in row.done {
-            assert!(rt; done.stands(&cpu, &port), "{}", row.name);
-        }
+        assert!(rt; row.passes(&mut decoder, &mut port), "{}", row.name);
     }
     Ok(())
+}
+
+/// Whether a memory of ORI.B #0,D0 alone is run to its end, where the frame of the fetch has no place.
+fn halts_at_the_end(decoder: &mut Decoder, port: &mut VectorPort) -> bool {
+    let mut cpu = processor(0x2700);
+    cpu.regs.pc = 0;
+    cpu.regs.isp = 0;
+    cpu.regs.d[0] = 0;
+    steps(decoder, 16_385, &mut cpu, port) == StepEnd::Halted
+        && (cpu.regs.sr, cpu.regs.pc, cpu.regs.isp) == (0x2704, 0x10000, 0)
+}
+
+/// Whether the processor halts where the frame of a zero divide has no place, and that of the access error none either:
+/// all is as before it.
+fn halts_in_its_entry(decoder: &mut Decoder, port: &mut VectorPort) -> bool {
+    let mut cpu = processor(0x2700);
+    cpu.regs.isp = 0xFFF0_0008;
+    steps(decoder, 2, &mut cpu, port) == StepEnd::Halted
+        && (cpu.regs.sr, cpu.regs.pc, cpu.regs.isp) == (0x2701, 0x404, 0xFFF0_0008)
 }
 
 #[test]
 fn halting(rt: HostRuntime) -> Result<(), AllocError> {
     let mut decoder = Decoder::new(rt.alloc())?;
-    // A memory of ORI.B #0,D0 alone, to its end, where the frame of the fetch has no place.
     let mut port = VectorPort::new(rt.alloc(), 0x4000, NO_HOLE)?;
-    let mut cpu = processor(0x2700);
-    cpu.regs.pc = 0;
-    cpu.regs.isp = 0;
-    cpu.regs.d[0] = 0;
-    assert!(rt; steps(&mut decoder, 16_385, &mut cpu, &mut port) == StepEnd::Halted);
-    assert!(rt; (cpu.regs.sr, cpu.regs.pc, cpu.regs.isp) == (0x2704, 0x10000, 0));
-    // The frame of a zero divide has no place, and that of the access error none either: all is as before it.
+    assert!(rt; halts_at_the_end(&mut decoder, &mut port));
     let mut port = memory(rt.alloc(), NO_HOLE, &[0x44FC, 0x0001, 0x80FC, 0x0000])?;
-    let mut cpu = processor(0x2700);
-    cpu.regs.isp = 0xFFF0_0008;
-    assert!(rt; steps(&mut decoder, 2, &mut cpu, &mut port) == StepEnd::Halted);
-    assert!(rt; (cpu.regs.sr, cpu.regs.pc, cpu.regs.isp) == (0x2701, 0x404, 0xFFF0_0008));
+    assert!(rt; halts_in_its_entry(&mut decoder, &mut port));
     Ok(())
 }

@@ -183,6 +183,44 @@ fn take_step(
     Stepped { end, cpu }
 }
 
+/// Whether two steps of the same words, each over a memory of its own, end the same and leave the same processor.
+fn is_as_general(
+    setting: Setting,
+    words: [u16; 3],
+    decoder: &mut Decoder,
+    port: &mut VectorPort,
+    other: &mut VectorPort,
+) -> bool {
+    let general = take_step(setting, words, decoder, port);
+    let short = take_step(setting, words, decoder, other);
+    short.end == general.end && short.cpu == general.cpu
+}
+
+/// The first word whose second step is not as its first.
+fn first_other(
+    setting: Setting,
+    decoder: &mut Decoder,
+    port: &mut VectorPort,
+    other: &mut VectorPort,
+) -> Option<u16> {
+    for first in &ALONE {
+        if !is_as_general(setting, [*first, 0x4E71, 0x4E71], decoder, port, other) {
+            return Some(*first);
+        }
+    }
+    for first in &WITH_ANOTHER {
+        if !is_as_general(setting, [*first, 0x0004, 0x4E71], decoder, port, other) {
+            return Some(*first);
+        }
+    }
+    for words in &OF_THREE_WORDS {
+        if !is_as_general(setting, *words, decoder, port, other) {
+            return Some(words[0]);
+        }
+    }
+    None
+}
+
 /// The first step of a first word goes the general way, and the next one of the same words in short; of three words the
 /// first is decoded, and the next one is found again.
 #[test]
@@ -191,16 +229,7 @@ fn in_short_as_in_general(rt: HostRuntime) -> Result<(), AllocError> {
         let mut decoder = Decoder::new(rt.alloc())?;
         let mut memory = operands(rt.alloc(), setting)?;
         let mut other = operands(rt.alloc(), setting)?;
-        let alone = ALONE.iter().map(|first| [*first, 0x4E71, 0x4E71]);
-        let with_another = WITH_ANOTHER.iter().map(|first| [*first, 0x0004, 0x4E71]);
-        let of_three_words = OF_THREE_WORDS.iter().copied();
-        for words in alone.chain(with_another).chain(of_three_words) {
-            let general = take_step(setting, words, &mut decoder, &mut memory);
-            let short = take_step(setting, words, &mut decoder, &mut other);
-            let first = words[0];
-            assert!(rt; short.end == general.end, "{first:x}");
-            assert!(rt; short.cpu == general.cpu, "{first:x}");
-        }
+        assert!(rt; first_other(setting, &mut decoder, &mut memory, &mut other) == None);
         assert!(rt; other.longs == memory.longs);
     }
     Ok(())
@@ -209,17 +238,19 @@ fn in_short_as_in_general(rt: HostRuntime) -> Result<(), AllocError> {
 /// Third words, one step after the other.
 static THIRDS: [u16; 5] = [0x1001, 0x1001, 0x1002, 0x1002, 0x1001];
 
+/// Whether MOVE.L #third,D2 is carried out.
+fn moves(third: u16, decoder: &mut Decoder, port: &mut VectorPort) -> bool {
+    let stepped = take_step(SETTINGS[0], [0x243C, 0, third], decoder, port);
+    stepped.cpu.regs.d[2] == u32::from(third) && stepped.cpu.regs.pc == CODE + 6
+}
+
 /// An instruction of three words is found again where its words came before, and never in place of another one.
 #[test]
 fn three_words_are_found_by_all(rt: HostRuntime) -> Result<(), AllocError> {
-    let setting = SETTINGS[0];
     let mut decoder = Decoder::new(rt.alloc())?;
-    let mut memory = operands(rt.alloc(), setting)?;
+    let mut memory = operands(rt.alloc(), SETTINGS[0])?;
     for &third in &THIRDS {
-        // MOVE.L #third,D2
-        let stepped = take_step(setting, [0x243C, 0, third], &mut decoder, &mut memory);
-        assert!(rt; stepped.cpu.regs.d[2] == u32::from(third));
-        assert!(rt; stepped.cpu.regs.pc == CODE + 6);
+        assert!(rt; moves(third, &mut decoder, &mut memory), "{third:x}");
     }
     Ok(())
 }

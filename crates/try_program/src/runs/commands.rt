@@ -1,7 +1,7 @@
 //! Sources that are assembled, excerpts that are listed, and sessions that a number makes. What D0 holds at the end of
 //! these was worked out by another program.
 
-use super::{HELLO, NOTHING, run_text};
+use super::{HELLO, NOTHING, Ran, run_text};
 
 /// A source of three instructions, and the records of its image.
 pub(super) const SOURCE: &[u8] = b" ORG 0\n DC.L $10000,start\n ORG $400\n\
@@ -138,22 +138,22 @@ static ROWS: [Row; 19] = [
 fn commands_run(rt: HostRuntime) {
     for row in &ROWS {
         let ran = run_text(rt.alloc(), row.words, row.file, NOTHING).expect(&rt, "ample memory");
-        assert!(rt; ran.status == row.status, "{}", row.words);
-        assert!(rt; ran.out.bytes() == row.out, "{}", row.words);
-        assert!(rt; ran.diag.bytes() == row.diag, "{}", row.words);
+        assert!(rt; ran.is(row.status, row.out, row.diag), "{}", row.words);
     }
+}
+
+/// Whether a run prints a text of 16 guests.
+fn has_sixteen(ran: &Ran) -> bool {
+    let text = ran.out.bytes();
+    ran.status == 0
+        && text.starts_with(b"guest 1 off ")
+        && text.ends_with(LAST_OF_SIXTEEN)
+        && text.len() == 795
 }
 
 /// Steps of 16 guests take long in a run with all checks, so they are a test of their own.
 #[test]
 fn a_session_of_sixteen_is_made(rt: HostRuntime) {
-    let ran = run_text(rt.alloc(), "mbx gen --seed 0 --guests 16", b"", NOTHING).expect(
-        &rt,
-        "ample memory",
-    );
-    let text = ran.out.bytes();
-    assert!(rt; ran.status == 0);
-    assert!(rt; text.starts_with(b"guest 1 off "));
-    assert!(rt; text.ends_with(LAST_OF_SIXTEEN));
-    assert!(rt; text.len() == 795);
+    let ran = run_text(rt.alloc(), "mbx gen --seed 0 --guests 16", b"", NOTHING);
+    assert!(rt; has_sixteen(&ran.expect(&rt, "ample memory")));
 }

@@ -1,7 +1,8 @@
 //! A guest of a session under the debugger.
 
 use super::sessions::{SESSION_OF_ONE, run_with};
-use super::{Failing, HELLO_TEXT, ROOMY};
+use super::{Failing, HELLO_TEXT, ROOMY, Ran, joined};
+use std::alloc::Global;
 
 /// Three guests, of which the second prints a character and switches itself off.
 const THREE: &[u8] =
@@ -79,59 +80,99 @@ static ROWS: [Row<'static>; 13] = [
     Row { words: "mbx debug s.txt debug.txt --guest 17", status: 2, diag: b"mbx: words refused\n", ..OF_ONE },
 ];
 
+/// A run of a row.
+fn run_row(alloc: Global, row: &Row) -> Option<Ran> {
+    run_with(alloc, row.words, row.session, row.commands, ROOMY)
+}
+
+/// Whether out has the lines of a row, and behind them the outcome of its guest, where there is one.
+fn is_told(ran: &Ran, row: &Row) -> Option<bool> {
+    let outcome = ran.out.bytes().strip_prefix(row.lines)?;
+    let Some(last) = row.last else {
+        return Some(outcome.is_empty());
+    };
+    let text = outcome.strip_prefix(last)?;
+    Some(HELLO_TEXT.strip_prefix(b"guest 1") == Some(text) && ran.native.retired() == 1)
+}
+
 #[test]
 fn guests_are_debugged(rt: HostRuntime) {
     for row in &ROWS {
-        let ran = run_with(rt.alloc(), row.words, row.session, row.commands, ROOMY).expect(
-            &rt,
-            "ample memory",
-        );
-        assert!(rt; ran.status == row.status, "{}", row.words);
-        assert!(rt; ran.diag.bytes() == row.diag, "{}", row.words);
-        let outcome = ran
-            .out
-            .bytes()
-            .strip_prefix(row.lines)
-            .expect(&rt, "its lines");
-        let Some(last) = row.last else {
-            assert!(rt; outcome.is_empty(), "{}", row.words);
-            continue;
-        };
-        let text = outcome.strip_prefix(last).expect(&rt, "its outcome");
-        assert!(rt;
-            HELLO_TEXT.strip_prefix(b"guest 1") == Some(text),
-            "{}",
-            row.words
-        );
-        assert!(rt; ran.native.retired() == 1, "{}", row.words);
+        let ran = run_row(rt.alloc(), row).expect(&rt, "ample memory");
+        let ends = ran.status == row.status && ran.diag.bytes() == row.diag;
+        assert!(rt; ends && is_told(&ran, row) == Some(true), "{}", row.words);
     }
+}
+
+/// Commands for more break points than there can be.
+fn many_breaks(alloc: Global) -> Option<String> {
+    let mut commands = String::from_str(alloc, "go 774\nkept\n").ok()?;
+    for at in 0..65u32 {
+        let digits = format!(in alloc; "{at:X}").ok()?;
+        commands
+            .push_str(&joined(alloc, &["break ", &digits, "\n"])?)
+            .ok()?;
+    }
+    Some(commands)
+}
+
+/// The line that tells of a page that is kept.
+fn kept_line(alloc: Global, page: u32) -> Option<String> {
+    let frame = page % 16;
+    let page = format!(in alloc; "{page:05X}").ok()?;
+    let frame = format!(in alloc; "{frame:05X}").ok()?;
+    joined(alloc, &["S ", &page, " ", &frame, " 0\n"])
+}
+
+/// The line that tells of a break point.
+fn break_line(alloc: Global, at: u32) -> Option<String> {
+    let digits = format!(in alloc; "{at:08X}").ok()?;
+    joined(alloc, &["break ", &digits, "\n"])
+}
+
+/// What stands behind the lines of 256 pages.
+fn behind_kept(alloc: Global, text: &[u8]) -> Option<&[u8]> {
+    let mut text = text;
+    for page in 0..256u32 {
+        text = text.strip_prefix(kept_line(alloc, page)?.as_bytes())?;
+    }
+    Some(text)
+}
+
+/// What stands behind the lines of 64 break points.
+fn behind_breaks(alloc: Global, text: &[u8]) -> Option<&[u8]> {
+    let mut text = text;
+    for at in 0..64u32 {
+        text = text.strip_prefix(break_line(alloc, at)?.as_bytes())?;
+    }
+    Some(text)
+}
+
+/// Whether the debugger shows 256 pages and takes 64 break points.
+fn are_few(alloc: Global, text: &[u8]) -> Option<bool> {
+    let kept = text.strip_prefix(b"at 774 pc 0000041C running\nkept 256\n")?;
+    let rest = behind_breaks(alloc, behind_kept(alloc, kept)?)?;
+    Some(rest.starts_with(b"full\n"))
 }
 
 /// More translations than are kept, and more break points than there can be.
 #[test]
 fn translations_and_break_points_are_few(rt: HostRuntime) {
-    let alloc = rt.alloc();
-    let mut commands = Vec::from_slice(alloc, b"go 774\nkept\n").expect(&rt, "memory");
-    for at in 0..65u32 {
-        let line = format!(in alloc; "break {at:X}\n").expect(&rt, "memory");
-        commands
-            .extend_from_slice(line.as_bytes())
-            .expect(&rt, "memory");
-    }
-    let ran = run_with(alloc, OF_ONE.words, READER, &commands, ROOMY).expect(&rt, "ample memory");
-    let mut lines = ran.out.bytes().split(|byte| *byte == b'\n');
-    assert!(rt; lines.next() == Some(b"at 774 pc 0000041C running".as_slice()));
-    assert!(rt; lines.next() == Some(b"kept 256".as_slice()));
-    for page in 0..256u32 {
-        let frame = page % 16;
-        let line = format!(in alloc; "S {page:05X} {frame:05X} 0").expect(&rt, "memory");
-        assert!(rt; lines.next() == Some(line.as_bytes()), "{page}");
-    }
-    for at in 0..64u32 {
-        let line = format!(in alloc; "break {at:08X}").expect(&rt, "memory");
-        assert!(rt; lines.next() == Some(line.as_bytes()), "{at}");
-    }
-    assert!(rt; lines.next() == Some(b"full".as_slice()));
+    let commands = many_breaks(rt.alloc()).expect(&rt, "memory");
+    let row = Row {
+        session: READER,
+        commands: commands.as_bytes(),
+        ..OF_ONE
+    };
+    let ran = run_row(rt.alloc(), &row).expect(&rt, "ample memory");
+    assert!(rt; are_few(rt.alloc(), ran.out.bytes()) == Some(true));
+}
+
+/// Whether a run says that out failed, which took the text of the commands or nothing.
+fn is_cut(ran: &Ran, told: bool) -> bool {
+    ran.status == 6
+        && ran.diag.bytes() == b"mbx: output failed\n".as_slice()
+        && ran.out.bytes().starts_with(b"at 1") == told
 }
 
 /// Out fails at the text of the commands, and at the outcome.
@@ -140,15 +181,8 @@ fn out_fails_under_the_debugger(rt: HostRuntime) {
     let commands = b"step 1\nstep 1\n";
     for out in 1..4 {
         let failing = Failing { out, ..ROOMY };
-        let ran = run_with(rt.alloc(), OF_ONE.words, SESSION_OF_ONE, commands, failing).expect(
-            &rt,
-            "ample memory",
-        );
-        assert!(rt; ran.status == 6, "{out}");
-        assert!(rt;
-            ran.diag.bytes() == b"mbx: output failed\n".as_slice(),
-            "{out}"
-        );
-        assert!(rt; ran.out.bytes().starts_with(b"at 1") == (out > 1), "{out}");
+        let ran = run_with(rt.alloc(), OF_ONE.words, SESSION_OF_ONE, commands, failing);
+        let ran = ran.expect(&rt, "ample memory");
+        assert!(rt; is_cut(&ran, out > 1), "{out}");
     }
 }

@@ -1,7 +1,7 @@
 //! Guests with disks.
 
 use super::sessions::{Row, check_row, run_session};
-use super::{ROOMY, Ran, contains};
+use super::{ROOMY, Ran, joined};
 use std::alloc::Global;
 
 /// It writes DATA, stores the buffer in block 1, and switches off.
@@ -110,7 +110,7 @@ pub(super) const SESSION_WITH_DISK: &[u8] =
 /// A guest with a disk, and parts of the text that it comes to.
 struct Case<'a> {
     image: &'a str,
-    blocks: u32,
+    blocks: &'a str,
     contents: Option<&'a str>,
     parts: &'a [&'a [u8]],
 }
@@ -118,7 +118,7 @@ struct Case<'a> {
 #[rattlefmt::skip]
 static CASES: [Case<'static>; 12] = [
     Case {
-        image: "store.s19", blocks: 2, contents: None,
+        image: "store.s19", blocks: "2", contents: None,
         parts: &[
             b"guest 1\nstate off\nsteps 4\n",
             b"\nend\ndisk 1 blocks 2\nBLOCK 00000001\nRESULT 00000000\nPOSITION 00000000\n1122334400000000",
@@ -126,7 +126,7 @@ static CASES: [Case<'static>; 12] = [
         ],
     },
     Case {
-        image: "beyond.s19", blocks: 2, contents: None,
+        image: "beyond.s19", blocks: "2", contents: None,
         parts: &[
             b"guest 1\nstate off\nsteps 4\n",
             b"\ndisk 1 blocks 2\nBLOCK 00000002\nRESULT 00000001\nPOSITION 00000000\n11223344000000000000000000000000",
@@ -134,7 +134,7 @@ static CASES: [Case<'static>; 12] = [
         ],
     },
     Case {
-        image: "copy.s19", blocks: 200, contents: None,
+        image: "copy.s19", blocks: "200", contents: None,
         parts: &[
             b"state off\n", b"D5 0009DD00\n",
             b"disk 1 blocks 200\nBLOCK 00000064\nRESULT 00000000\nPOSITION 00000000\n",
@@ -143,14 +143,14 @@ static CASES: [Case<'static>; 12] = [
         ],
     },
     Case {
-        image: "commands.s19", blocks: 2, contents: None,
+        image: "commands.s19", blocks: "2", contents: None,
         parts: &[
             b"D0 00000001\nD1 00000001\nD2 00000001\nD3 00000001\nD4 00000001\nD5 00000000\nD6 00000002\n",
             b"disk 1 blocks 2\nBLOCK 00000000\nRESULT 00000000\nPOSITION 00000000\n",
         ],
     },
     Case {
-        image: "resets.s19", blocks: 2, contents: None,
+        image: "resets.s19", blocks: "2", contents: None,
         parts: &[
             b"D0 00000000\nD1 00000000\nD2 00000000\nD3 11223344\n",
             b"disk 1 blocks 2\nBLOCK 00000001\nRESULT 00000000\nPOSITION 00000004\n11223344000000000000000000000000",
@@ -158,76 +158,82 @@ static CASES: [Case<'static>; 12] = [
         ],
     },
     Case {
-        image: "ends.s19", blocks: 1, contents: None,
+        image: "ends.s19", blocks: "1", contents: None,
         parts: &[
             b"D0 00000000\nD1 00000001\nD2 00000000\n", b"disk 1 blocks 1\nBLOCK 00000000\nRESULT 00000000\n",
             b"0000\n00000000 11223344000000000000000000000000\nend\n",
         ],
     },
     Case {
-        image: "ends.s19", blocks: 32768, contents: None,
+        image: "ends.s19", blocks: "32768", contents: None,
         parts: &[
             b"D0 00007FFF\nD1 00000001\nD2 00000000\n", b"disk 1 blocks 32768\nBLOCK 00007FFF\nRESULT 00000000\n",
             b"0000\n00FFFE00 11223344000000000000000000000000\nend\n",
         ],
     },
     Case {
-        image: "wraps.s19", blocks: 1, contents: None,
+        image: "wraps.s19", blocks: "1", contents: None,
         parts: &[
             b"D1 00000000\nD2 11223344\nD3 55667788\n", b"RESULT 00000000\nPOSITION 00000004\n5566778800000000",
             b"\n00000000 55667788000000000000000000000000\n000001F0 00000000000000000000000011223344\nend\n",
         ],
     },
     Case {
-        image: "narrow.s19", blocks: 2, contents: None,
+        image: "narrow.s19", blocks: "2", contents: None,
         parts: &[
             b"state off\n", b"D0 00000002\n", b"D7 00000008\n",
             b"disk 1 blocks 2\nBLOCK 00000000\nRESULT 00000000\nPOSITION 00000000\n",
         ],
     },
     Case {
-        image: "mapped.s19", blocks: 2, contents: None,
+        image: "mapped.s19", blocks: "2", contents: None,
         parts: &[
             b"state off\n", b"D1 00000002\n", b"TC 00008000\n", b"disk 1 blocks 2\nBLOCK 00000001\nRESULT 00000000\n",
             b"\n00000200 11223344000000000000000000000000\nend\n",
         ],
     },
     Case {
-        image: "loads.s19", blocks: 2, contents: Some("disk.s19"),
+        image: "loads.s19", blocks: "2", contents: Some("disk.s19"),
         parts: &[
             b"D0 AABBCCDD\n", b"BLOCK 00000001\nRESULT 00000000\nPOSITION 00000004\nAABBCCDD000000000000000000000000",
             b"\n00000200 AABBCCDD000000000000000000000000\nend\n",
         ],
     },
     Case {
-        image: "hello.s19", blocks: 3, contents: Some("disk.s19"),
+        image: "hello.s19", blocks: "3", contents: Some("disk.s19"),
         parts: &[b"console 1\n41\n", b"BLOCK 00000000\n", b"\n00000200 AABBCCDD000000000000000000000000\nend\n"],
     },
 ];
 
 /// A machine with its disk by itself.
 fn run_bare(alloc: Global, case: &Case) -> Option<Ran> {
-    let words = match case.contents {
-        Some(name) => format!(in alloc;
-            "mbx bare {} --ram 64 --steps 60000 --disk {} --contents {name}",
-            case.image, case.blocks
-        ),
-        None => format!(in alloc;
-            "mbx bare {} --ram 64 --steps 60000 --disk {}",
-            case.image, case.blocks
-        ),
+    let (option, name) = match case.contents {
+        Some(name) => (" --contents ", name),
+        None => ("", ""),
     };
-    run_session(alloc, &words.ok()?, b"", ROOMY)
+    let parts = [
+        "mbx bare ",
+        case.image,
+        " --ram 64 --steps 60000 --disk ",
+        case.blocks,
+        option,
+        name,
+    ];
+    run_session(alloc, &joined(alloc, &parts)?, b"", ROOMY)
 }
 
 /// The same as the one guest of a session.
 fn run_guest(alloc: Global, words: &str, case: &Case) -> Option<Ran> {
-    let contents = case.contents.unwrap_or("-");
-    let session = format!(in alloc;
-        "session 2\nboard 192\nslice 7\nguest 64 60000 {} -\ndisk 1 {} {contents}\n",
-        case.image, case.blocks
-    );
-    run_session(alloc, words, session.ok()?.as_bytes(), ROOMY)
+    let parts = [
+        "session 2\nboard 192\nslice 7\nguest 64 60000 ",
+        case.image,
+        " -\ndisk 1 ",
+        case.blocks,
+        " ",
+        case.contents.unwrap_or("-"),
+        "\n",
+    ];
+    run_session(alloc, words, joined(alloc, &parts)?.as_bytes(), ROOMY)
 }
 
 /// What is shown is there, and is the same under the monitor.
@@ -235,31 +241,16 @@ fn run_guest(alloc: Global, words: &str, case: &Case) -> Option<Ran> {
 fn disks_are_read_and_written(rt: HostRuntime) {
     for case in &CASES {
         let bare = run_bare(rt.alloc(), case).expect(&rt, "ample memory");
-        assert!(rt; bare.status == 0, "{} {}", case.image, case.blocks);
-        for part in case.parts {
-            assert!(rt;
-                contains(bare.out.bytes(), part),
-                "{} {}",
-                case.image,
-                case.blocks
-            );
-        }
+        let (image, blocks) = (case.image, case.blocks);
+        assert!(rt;
+            bare.status == 0 && bare.has(case.parts),
+            "{image} {blocks}"
+        );
         let hosted = run_guest(rt.alloc(), "mbx host s.txt", case).expect(&rt, "ample memory");
-        assert!(rt; hosted.status == 0, "{} {}", case.image, case.blocks);
-        assert!(rt;
-            hosted.out.bytes() == bare.out.bytes(),
-            "{} {}",
-            case.image,
-            case.blocks
-        );
+        let same = hosted.status == 0 && hosted.out.bytes() == bare.out.bytes();
+        assert!(rt; same, "{image} {blocks}");
         let compared = run_guest(rt.alloc(), "mbx compare s.txt", case).expect(&rt, "ample memory");
-        assert!(rt; compared.status == 0, "{} {}", case.image, case.blocks);
-        assert!(rt;
-            compared.out.bytes() == b"guest 1 same\n".as_slice(),
-            "{} {}",
-            case.image,
-            case.blocks
-        );
+        assert!(rt; compared.is(0, b"guest 1 same\n", b""), "{image} {blocks}");
     }
 }
 

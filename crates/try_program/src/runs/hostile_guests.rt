@@ -2,7 +2,7 @@
 //! board with the same image and script. Each flushes what it changes, so that the rule of keeping makes no difference,
 //! and the text of a bare board is that of the guest's own rule; `compare` says so of each.
 
-use super::{ROOMY, Ran, contains, file, run_over};
+use super::{ROOMY, Ran, file, file_of, joined, run_over};
 use mb_outside::MemShelf;
 use std::alloc::Global;
 
@@ -89,7 +89,7 @@ off:    moveq   #0,d3
 /// A guest's source behind its head, how many steps it takes at most, and parts of its text that were worked out by
 /// hand: how it stands, how many of its accesses were refused, and what it counted in memory.
 struct Guest<'a> {
-    number: u8,
+    number: &'a str,
     what: &'a str,
     source: &'a [u8],
     steps: &'a str,
@@ -102,7 +102,7 @@ const TYPED: &[u8] = b"at 150 text war\nat 1000 hex FF00\nat 2000 line x\n";
 #[rattlefmt::skip]
 static GUESTS: [Guest; 16] = [
     Guest {
-        number: 1,
+        number: "1",
         what: "a long is written behind its RAM, in a loop",
         source: b"
 start:  lea     (start,pc),a6
@@ -113,7 +113,7 @@ start:  lea     (start,pc),a6
         lines: &[b"state running\nsteps 1000\n", b"\nD7 0000004F\n"],
     },
     Guest {
-        number: 2,
+        number: "2",
         what: "its RAM is filled to the end, and then run as code",
         source: b"
 start:  lea     $1000,a0
@@ -124,7 +124,7 @@ fill:   move.l  a0,(a0)+
         lines: &[b"state running\nsteps 50000\n", b"\nD7 00000001\n"],
     },
     Guest {
-        number: 3,
+        number: "3",
         what: "writes at the end of its RAM, and of the board's part that holds its shadow",
         source: b"
 start:  lea     $FFE0,a0
@@ -139,7 +139,7 @@ start:  lea     $FFE0,a0
         lines: &[b"state off\n", b"\nD7 00000446\n"],
     },
     Guest {
-        number: 4,
+        number: "4",
         what: "writes at both ends of the address space, and at the devices",
         source: b"
 start:  lea     $FFFFFFE0,a0
@@ -154,7 +154,7 @@ start:  lea     $FFFFFFE0,a0
         lines: &[b"state off\n", b"\nD7 00000566\n"],
     },
     Guest {
-        number: 5,
+        number: "5",
         what: "tables behind its RAM, in the RAM of the next guest, and at devices, of users and then its own",
         source: b"
 start:  bsr     build
@@ -207,7 +207,7 @@ outside: dc.l   $10000,$1FE00,$20000,$FFF00000,$FFF0FE00,$FFFFFE00,0
         lines: &[b"state halted\n", b"\nD7 0000003E\n", b"\nSRP 00010000\n"],
     },
     Guest {
-        number: 6,
+        number: "6",
         what: "its tables lie in the page that it runs from, and it stores to them and to its code",
         source: b"
         org     $1000
@@ -247,7 +247,7 @@ here:   addi.w  #0,d4
         lines: &[b"state off\n", b"\nD7 00000001\n", b"\n00002000 000003E8", b"\n00003000 000007D0"],
     },
     Guest {
-        number: 7,
+        number: "7",
         what: "a table that is its own pointer and page table, and a space of one page with code and stack",
         source: b"
 start:  lea     $8000,a0
@@ -282,7 +282,7 @@ inner:  addq.l  #1,d7
         lines: &[b"state off\n", b"\nD7 00000258\n", b"\n00008F00 00000000000002580000000000000000\n"],
     },
     Guest {
-        number: 8,
+        number: "8",
         what: "pages that lead to the devices",
         source: b"
 start:  bsr     build
@@ -306,7 +306,7 @@ back:   lea     off,a6
         lines: &[b"state off\n", b"\nD7 00000584\n"],
     },
     Guest {
-        number: 9,
+        number: "9",
         what: "pages that lead to the board's part that holds its shadow, and to the next guest",
         source: b"
 start:  bsr     build
@@ -333,7 +333,7 @@ back:   lea     off,a6
         lines: &[b"state off\n", b"\nD7 00000708\n"],
     },
     Guest {
-        number: 10,
+        number: "10",
         what: "a page is led to another frame and flushed, in each way, in a loop",
         source: b"
 start:  bsr     build
@@ -377,7 +377,7 @@ touch:  addq.l  #1,(a0)
         lines: &[b"state off\n", b"\nD7 00000000\n", b"\n00002000 000001F4", b"\n00003000 000001F4"],
     },
     Guest {
-        number: 11,
+        number: "11",
         what: "each step is in another space, by traps, and every few steps the space of users is another one",
         source: b"
 start:  bsr     build
@@ -415,7 +415,7 @@ user:   addq.l  #1,$4000
         lines: &[b"state off\n", b"\nD7 00000000\n", b"\n00004000 000000FA", b"\n00005000 000000FA"],
     },
     Guest {
-        number: 12,
+        number: "12",
         what: "each step is an interrupt whose frame is refused, and the access error's frames fill the memory",
         source: b"
 start:  lea     STACK,a0
@@ -429,7 +429,7 @@ start:  lea     STACK,a0
         lines: &[b"state halted\nsteps 824\n", b"\nMSP 00000028\n"],
     },
     Guest {
-        number: 13,
+        number: "13",
         what: "RTE is refused at each byte of a frame",
         source: b"
 start:  bsr     build
@@ -451,7 +451,7 @@ next:   dbf     d5,again
         lines: &[b"state off\n", b"\nD7 0000003C\n"],
     },
     Guest {
-        number: 14,
+        number: "14",
         what: "more is sent than the console keeps",
         source: b"
 start:  lea     DATA,a0
@@ -471,7 +471,7 @@ again:  move.b  d5,(a0)
         lines: &[b"state off\nsteps 73941\nconsole 65536\n", b"\nlost 64\n"],
     },
     Guest {
-        number: 15,
+        number: "15",
         what: "it is switched off and halts in one step",
         source: b"
 start:  lea     $FFF00008,sp
@@ -482,7 +482,7 @@ start:  lea     $FFF00008,sp
         lines: &[b"state halted\nsteps 138\n"],
     },
     Guest {
-        number: 16,
+        number: "16",
         what: "each step is traced and every seventh interrupted, code changes itself, and a script types",
         source: b"
 start:  move.l  #traced,$424
@@ -519,12 +519,19 @@ tick:   clr.l   ACK
     },
 ];
 
-/// The image of a guest.
-fn image_of(alloc: Global, guest: &Guest) -> Option<Vec<u8>> {
+/// What a guest's source is with its head.
+fn source_of(alloc: Global, guest: &Guest) -> Option<Vec<u8>> {
     let mut source = Vec::from_slice(alloc, HEAD).ok()?;
     source.extend_from_slice(guest.source).ok()?;
+    Some(source)
+}
+
+/// The image of a guest.
+fn image_of(alloc: Global, guest: &Guest) -> Option<Vec<u8>> {
     let mut files = Vec::new(alloc);
-    files.push(file(alloc, "guest.s", source)?).ok()?;
+    files
+        .push(file(alloc, "guest.s", source_of(alloc, guest)?)?)
+        .ok()?;
     let mut shelf = MemShelf::new(files, Vec::new(alloc));
     let ran = run_over(alloc, "mbx asm guest.s", &mut shelf, ROOMY)?;
     if ran.status != 0 {
@@ -534,72 +541,96 @@ fn image_of(alloc: Global, guest: &Guest) -> Option<Vec<u8>> {
 }
 
 /// The session of all guests, in slices of so many steps.
-fn session_of(alloc: Global, slice: &str) -> Option<Vec<u8>> {
-    let mut session = format!(in alloc; "session 1\nboard 2112\nslice {slice}\n").ok()?;
+fn session_of(alloc: Global, slice: &str) -> Option<String> {
+    let mut session = joined(alloc, &["session 1\nboard 2112\nslice ", slice, "\n"])?;
     for guest in &GUESTS {
-        let line = format!(in alloc;
-            "guest 64 {} {}.s19 typed.txt\n",
-            guest.steps, guest.number
-        ).ok()?;
-        session.push_str(&line).ok()?;
+        let parts = [
+            "guest 64 ",
+            guest.steps,
+            " ",
+            guest.number,
+            ".s19 typed.txt\n",
+        ];
+        session.push_str(&joined(alloc, &parts)?).ok()?;
     }
-    Vec::from_slice(alloc, session.as_bytes()).ok()
+    Some(session)
+}
+
+/// The file with the image of a guest.
+fn image_file(alloc: Global, guest: &Guest) -> Option<(String, Vec<u8>)> {
+    let name = joined(alloc, &[guest.number, ".s19"])?;
+    Some((name, image_of(alloc, guest)?))
+}
+
+/// A file with the session of all guests.
+fn session_file(alloc: Global, name: &str, slice: &str) -> Option<(String, Vec<u8>)> {
+    file_of(alloc, name, session_of(alloc, slice)?.as_bytes())
 }
 
 /// A shelf with what is typed, a session for each slice, and the guests' images.
 fn shelf_of_guests(alloc: Global) -> Option<MemShelf> {
     let mut files = Vec::new(alloc);
-    let typed = Vec::from_slice(alloc, TYPED).ok()?;
-    files.push(file(alloc, "typed.txt", typed)?).ok()?;
-    files
-        .push(file(alloc, "1.txt", session_of(alloc, "1")?)?)
-        .ok()?;
-    files
-        .push(file(alloc, "1000.txt", session_of(alloc, "1000")?)?)
-        .ok()?;
+    files.push(file_of(alloc, "typed.txt", TYPED)?).ok()?;
+    files.push(session_file(alloc, "1.txt", "1")?).ok()?;
+    files.push(session_file(alloc, "1000.txt", "1000")?).ok()?;
     for guest in &GUESTS {
-        let name = format!(in alloc; "{}.s19", guest.number).ok()?;
-        files.push((name, image_of(alloc, guest)?)).ok()?;
+        files.push(image_file(alloc, guest)?).ok()?;
     }
     Some(MemShelf::new(files, Vec::new(alloc)))
 }
 
 /// What a guest shows on a bare board.
 fn run_bare(alloc: Global, shelf: &mut MemShelf, guest: &Guest) -> Option<Ran> {
-    let words = format!(in alloc;
-        "mbx bare {}.s19 --ram 64 --steps {} --script typed.txt",
-        guest.number, guest.steps
-    )
-    .ok()?;
-    run_over(alloc, &words, shelf, ROOMY)
+    let parts = [
+        "mbx bare ",
+        guest.number,
+        ".s19 --ram 64 --steps ",
+        guest.steps,
+        " --script typed.txt",
+    ];
+    run_over(alloc, &joined(alloc, &parts)?, shelf, ROOMY)
 }
 
 /// What stands in a session's text behind that of a guest, which is that of a bare board but for its number.
 fn behind<'a>(alloc: Global, text: &'a [u8], guest: &Guest, bare: &[u8]) -> Option<&'a [u8]> {
-    let first = format!(in alloc; "guest {}\n", guest.number).ok()?;
+    let first = joined(alloc, &["guest ", guest.number, "\n"])?;
     let shown = bare.strip_prefix(b"guest 1\n".as_slice())?;
     text.strip_prefix(first.as_bytes())?.strip_prefix(shown)
+}
+
+/// What stands in a session's text behind that of a guest, whose bare board shows what was worked out by hand.
+fn behind_guest<'a>(
+    alloc: Global,
+    shelf: &mut MemShelf,
+    text: &'a [u8],
+    guest: &Guest,
+) -> Option<&'a [u8]> {
+    let bare = run_bare(alloc, shelf, guest)?;
+    if !bare.has(guest.lines) {
+        return None;
+    }
+    behind(alloc, text, guest, bare.out.bytes())
+}
+
+/// A run of a command over a session of all guests.
+fn run_all(alloc: Global, shelf: &mut MemShelf, words: &str) -> Option<Ran> {
+    let ran = run_over(alloc, words, shelf, ROOMY)?;
+    if ran.status != 0 {
+        return None;
+    }
+    Some(ran)
 }
 
 #[test]
 fn guests_at_war_show_what_they_show_alone(rt: HostRuntime) {
     let mut shelf = shelf_of_guests(rt.alloc()).expect(&rt, "images");
-    let ones = run_over(rt.alloc(), "mbx host 1.txt", &mut shelf, ROOMY).expect(&rt, "memory");
+    let ones = run_all(rt.alloc(), &mut shelf, "mbx host 1.txt").expect(&rt, "slices of 1");
     let mut text = ones.out.bytes();
     for guest in &GUESTS {
-        let bare = run_bare(rt.alloc(), &mut shelf, guest).expect(&rt, "memory");
-        for line in guest.lines {
-            assert!(rt; contains(bare.out.bytes(), line), "{}", guest.what);
-        }
-        text = behind(rt.alloc(), text, guest, bare.out.bytes()).expect(&rt, guest.what);
+        text = behind_guest(rt.alloc(), &mut shelf, text, guest).expect(&rt, guest.what);
     }
     assert!(rt; text.is_empty());
-    let thousands = run_over(rt.alloc(), "mbx host 1000.txt", &mut shelf, ROOMY).expect(
-        &rt, "memory",
-    );
-    assert!(rt; thousands.out.bytes() == ones.out.bytes());
-    let compared = run_over(rt.alloc(), "mbx compare 1000.txt", &mut shelf, ROOMY).expect(
-        &rt, "memory",
-    );
-    assert!(rt; ones.status == 0 && thousands.status == 0 && compared.status == 0);
+    let thousands = run_all(rt.alloc(), &mut shelf, "mbx host 1000.txt");
+    assert!(rt; thousands.expect(&rt, "slices of 1000").out.bytes() == ones.out.bytes());
+    assert!(rt; run_all(rt.alloc(), &mut shelf, "mbx compare 1000.txt").is_some());
 }

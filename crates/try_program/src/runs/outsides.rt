@@ -2,7 +2,7 @@
 //! meets none; so it meets out; and it meets an out with room for a part. Last, outsides of which none can fail.
 
 use super::sessions::{SESSION_OF_ONE, run_session};
-use super::{Failing, HELLO, HELLO_WORDS, ROOMY, Ran, SCRIPT_WORDS, file, split_words};
+use super::{Failing, HELLO, HELLO_WORDS, ROOMY, Ran, SCRIPT_WORDS, file_of, joined, split_words};
 use mb_program::run_unfailing;
 use std::alloc::Global;
 
@@ -34,6 +34,12 @@ static COMMANDS: [Command; 8] = [
     Command { words: "mbx gen --seed 1 --guests 1", files: &[] },
 ];
 
+/// Whether a run says that a file cannot be read.
+fn is_unread(alloc: Global, ran: &Ran, name: &str) -> Option<bool> {
+    let line = joined(alloc, &["mbx: ", name, " cannot be read\n"])?;
+    Some(ran.is(5, b"", line.as_bytes()))
+}
+
 /// How many calls of the shelf were refused in turn, until a run met none. Nothing where a run with a refused call did
 /// not end with that file and nothing on out.
 fn refusals_of_shelf(alloc: Global, command: &Command) -> Option<usize> {
@@ -48,8 +54,7 @@ fn refusals_of_shelf(alloc: Global, command: &Command) -> Option<usize> {
         }
         // Of each file one call gives all, and another one its end.
         let name = command.files.get(refused / 2)?;
-        let line = format!(in alloc; "mbx: {name} cannot be read\n").ok()?;
-        if ran.status != 5 || ran.diag.bytes() != line.as_bytes() || !ran.out.bytes().is_empty() {
+        if !is_unread(alloc, &ran, name)? {
             return None;
         }
     }
@@ -116,27 +121,19 @@ fn fails_in_silence(alloc: Global, command: &Command) -> Option<bool> {
     Some(ran.status == 6 && ran.diag.bytes().is_empty() && ran.out.bytes().is_empty())
 }
 
+/// Whether a command says so at each call of out, in each room, and in silence.
+fn fails_as_it_should(alloc: Global, command: &Command) -> Option<bool> {
+    let whole = run_session(alloc, command.words, SESSION, ROOMY)?;
+    let text = whole.out.bytes();
+    let calls = refusals_of_out(alloc, command, text)?;
+    Some(calls > 0 && fills_each_room(alloc, command, text)? && fails_in_silence(alloc, command)?)
+}
+
 #[test]
 fn out_fails_at_each_call(rt: HostRuntime) {
     for command in &COMMANDS {
-        let whole = run_session(rt.alloc(), command.words, SESSION, ROOMY).expect(&rt, "memory");
-        let text = whole.out.bytes();
-        let refusals = refusals_of_out(rt.alloc(), command, text);
-        assert!(rt;
-            refusals.is_some_and(|calls| calls > 0),
-            "{}",
-            command.words
-        );
-        assert!(rt;
-            fills_each_room(rt.alloc(), command, text) == Some(true),
-            "{}",
-            command.words
-        );
-        assert!(rt;
-            fails_in_silence(rt.alloc(), command) == Some(true),
-            "{}",
-            command.words
-        );
+        let fails = fails_as_it_should(rt.alloc(), command);
+        assert!(rt; fails == Some(true), "{}", command.words);
     }
 }
 
@@ -165,19 +162,25 @@ static UNFAILING: [(&str, u8); 17] = [
 /// The files that these words find.
 static FILES: [(&str, &[u8]); 2] = [("s.txt", SESSION_OF_ONE), ("hello.s19", HELLO)];
 
+/// Those files.
+fn files(alloc: Global) -> Option<Vec<(String, Vec<u8>)>> {
+    let mut files = Vec::new(alloc);
+    for &(name, bytes) in &FILES {
+        files.push(file_of(alloc, name, bytes)?).ok()?;
+    }
+    Some(files)
+}
+
+/// The status of a run of these words.
+fn status_of(alloc: Global, line: &str) -> Option<u8> {
+    let words = split_words(alloc, line)?;
+    let files = files(alloc)?;
+    Some(run_unfailing(alloc, &words, files))
+}
+
 #[test]
 fn nothing_outside_fails(rt: HostRuntime) {
     for &(line, status) in &UNFAILING {
-        let words = split_words(rt.alloc(), line).expect(&rt, "ample memory");
-        let mut files = Vec::new(rt.alloc());
-        for &(name, bytes) in &FILES {
-            let bytes = Vec::from_slice(rt.alloc(), bytes).expect(&rt, "ample memory");
-            let file = file(rt.alloc(), name, bytes).expect(&rt, "ample memory");
-            files.push(file).expect(&rt, "ample memory");
-        }
-        assert!(rt;
-            run_unfailing(rt.alloc(), &words, files) == status,
-            "{line}"
-        );
+        assert!(rt; status_of(rt.alloc(), line) == Some(status), "{line}");
     }
 }

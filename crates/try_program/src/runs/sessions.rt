@@ -6,7 +6,7 @@ use super::disks::{
 };
 use super::snapshots::SAVED;
 use super::{
-    Failing, HELLO, HELLO_TEXT, NOTHING, ROOMY, Ran, contains, file, run_over, split_words,
+    Failing, HELLO, HELLO_TEXT, NOTHING, ROOMY, Ran, contains, file_of, run_over, split_words,
 };
 use mb_outside::MemShelf;
 use std::alloc::Global;
@@ -102,14 +102,10 @@ static KNOWN: [(&str, &[u8]); 22] = [
 /// A shelf with what is known, a session, and a debugger's commands.
 fn shelf(alloc: Global, session: &[u8], commands: &[u8], fails: u64) -> Option<MemShelf> {
     let mut files = Vec::new(alloc);
-    let session = Vec::from_slice(alloc, session).ok()?;
-    files.push(file(alloc, "s.txt", session)?).ok()?;
-    let commands = Vec::from_slice(alloc, commands).ok()?;
-    files.push(file(alloc, "debug.txt", commands)?).ok()?;
+    files.push(file_of(alloc, "s.txt", session)?).ok()?;
+    files.push(file_of(alloc, "debug.txt", commands)?).ok()?;
     for &(name, bytes) in &KNOWN {
-        files
-            .push(file(alloc, name, Vec::from_slice(alloc, bytes).ok()?)?)
-            .ok()?;
+        files.push(file_of(alloc, name, bytes)?).ok()?;
     }
     Some(MemShelf::new(files, Vec::from_slice(alloc, &[fails]).ok()?))
 }
@@ -135,20 +131,19 @@ pub(super) fn run_with(
     run_over(alloc, words, &mut shelf, failing)
 }
 
+/// Whether a run gives what a row says.
+fn is_row(ran: &Ran, row: &Row) -> bool {
+    ran.status == row.status
+        && ran.diag.bytes() == row.diag
+        && ran.out.bytes().is_empty() == row.parts.is_empty()
+        && ran.has(row.parts)
+}
+
 /// Each of the words gives what the row says.
 pub(super) fn check_row(rt: &impl Abort, alloc: Global, row: &Row) {
     for words in row.words {
         let ran = run_session(alloc, words, row.session, ROOMY).expect(rt, "ample memory");
-        assert!(rt; ran.status == row.status, "{}: {words}", row.what);
-        assert!(rt; ran.diag.bytes() == row.diag, "{}: {words}", row.what);
-        assert!(rt;
-            ran.out.bytes().is_empty() == row.parts.is_empty(),
-            "{}: {words}",
-            row.what
-        );
-        for part in row.parts {
-            assert!(rt; contains(ran.out.bytes(), part), "{}: {words}", row.what);
-        }
+        assert!(rt; is_row(&ran, row), "{}: {words}", row.what);
     }
 }
 
@@ -308,15 +303,18 @@ static CARRIED_OUT: [(&str, u64, u64); 3] = [
     ("mbx bare loop.s19 --ram 64 --steps 100", 0, 0),
 ];
 
+/// Whether a run was done, and the board carried out so many steps and took so many exceptions.
+fn has_counted(ran: &Ran, retired: u64, exceptions: u64) -> bool {
+    ran.status == 0 && ran.native.retired() == retired && ran.native.exceptions() == exceptions
+}
+
 #[test]
 fn what_the_board_carries_out_is_counted(rt: HostRuntime) {
     let session =
         b"session 1\nboard 320\nslice 5\nguest 64 100 loop.s19 -\nguest 64 8 loop.s19 -\n";
     for &(words, retired, exceptions) in &CARRIED_OUT {
         let ran = run_session(rt.alloc(), words, session, ROOMY).expect(&rt, "ample memory");
-        assert!(rt; ran.status == 0, "{words}");
-        assert!(rt; ran.native.retired() == retired, "{words}");
-        assert!(rt; ran.native.exceptions() == exceptions, "{words}");
+        assert!(rt; has_counted(&ran, retired, exceptions), "{words}");
     }
 }
 
@@ -339,42 +337,44 @@ static SCHEDULES: [(&str, &str, &[u8]); 3] = [
     ("mbx compare s.txt", "turns", TURNS),
 ];
 
+/// Whether two runs are done, and show and count the same.
+fn are_same(one: &Ran, other: &Ran) -> bool {
+    one.status == 0
+        && other.is(0, one.out.bytes(), one.diag.bytes())
+        && one.native.retired() == other.native.retired()
+}
+
 /// Neither slices nor turns show, nor do they count.
 #[test]
 fn schedules_do_not_show(rt: HostRuntime) {
     for &(words, what, session) in &SCHEDULES {
         let rounds = run_session(rt.alloc(), words, ROUNDS, ROOMY).expect(&rt, "ample memory");
         let others = run_session(rt.alloc(), words, session, ROOMY).expect(&rt, "ample memory");
-        assert!(rt; rounds.status == 0 && others.status == 0, "{words}: {what}");
-        assert!(rt; rounds.out.bytes() == others.out.bytes(), "{words}: {what}");
-        assert!(rt;
-            rounds.diag.bytes() == others.diag.bytes(),
-            "{words}: {what}"
-        );
-        assert!(rt;
-            rounds.native.retired() == others.native.retired(),
-            "{words}: {what}"
-        );
+        assert!(rt; are_same(&rounds, &others), "{words}: {what}");
     }
+}
+
+/// A session of sixteen guests.
+fn session_of_sixteen(alloc: Global) -> Option<String> {
+    let mut session = String::from_str(alloc, "session 1\nboard 2112\nslice 2\n").ok()?;
+    for _ in 0..16 {
+        session.push_str("guest 64 10 hello.s19 -\n").ok()?;
+    }
+    Some(session)
+}
+
+/// Whether a run shows sixteen such guests.
+fn shows_sixteen(ran: &Ran) -> bool {
+    let text = ran.out.bytes();
+    ran.status == 0
+        && text.starts_with(HELLO_TEXT)
+        && text.len() == 16 * HELLO_TEXT.len() + 7
+        && contains(text, b"guest 16\nstate off\n")
 }
 
 #[test]
 fn sixteen_guests_run(rt: HostRuntime) {
-    let mut session = String::from_str(rt.alloc(), "session 1\nboard 2112\nslice 2\n").expect(
-        &rt,
-        "ample memory",
-    );
-    for _ in 0..16 {
-        session
-            .push_str("guest 64 10 hello.s19 -\n")
-            .expect(&rt, "ample memory");
-    }
-    let ran = run_session(rt.alloc(), "mbx host s.txt", session.as_bytes(), ROOMY).expect(
-        &rt,
-        "ample memory",
-    );
-    assert!(rt; ran.status == 0);
-    assert!(rt; ran.out.bytes().starts_with(HELLO_TEXT));
-    assert!(rt; ran.out.bytes().len() == 16 * HELLO_TEXT.len() + 7);
-    assert!(rt; contains(ran.out.bytes(), b"guest 16\nstate off\n"));
+    let session = session_of_sixteen(rt.alloc()).expect(&rt, "ample memory");
+    let ran = run_session(rt.alloc(), "mbx host s.txt", session.as_bytes(), ROOMY);
+    assert!(rt; shows_sixteen(&ran.expect(&rt, "ample memory")));
 }

@@ -2,7 +2,7 @@
 
 use super::disks::SESSION_WITH_DISK;
 use super::sessions::{SESSION_OF_ONE, run_session};
-use super::{HELLO_TEXT, ROOMY, Ran};
+use super::{HELLO_TEXT, ROOMY, Ran, joined};
 use std::alloc::Global;
 
 /// The first image behind its second step.
@@ -100,9 +100,7 @@ static ROWS: [Row<'static>; 13] = [
 fn guests_are_saved_and_resumed(rt: HostRuntime) {
     for row in &ROWS {
         let ran = run_session(rt.alloc(), row.words, row.file, ROOMY).expect(&rt, "ample memory");
-        assert!(rt; ran.status == row.status, "{}", row.words);
-        assert!(rt; ran.out.bytes() == row.out, "{}", row.words);
-        assert!(rt; ran.diag.bytes() == row.diag, "{}", row.words);
+        assert!(rt; ran.is(row.status, row.out, row.diag), "{}", row.words);
     }
 }
 
@@ -119,27 +117,31 @@ static PARTS: [(&str, &str); 9] = [
     ("4294967295", "0"),
 ];
 
+/// A run of a command with so many steps.
+fn run_steps(alloc: Global, command: &str, file: &[u8], steps: &str) -> Option<Ran> {
+    let words = joined(alloc, &["mbx ", command, " s.txt --steps ", steps])?;
+    run_session(alloc, &words, file, ROOMY)
+}
+
 /// What comes of a session that is saved after the first of these steps and goes on for the second.
-fn save_and_resume(alloc: Global, session: &[u8], parts: (&str, &str)) -> Option<(Ran, Ran)> {
-    let (steps, more) = parts;
-    let save = format!(in alloc; "mbx save s.txt --steps {steps}").ok()?;
-    let resume = format!(in alloc; "mbx resume s.txt --steps {more}").ok()?;
-    let saved = run_session(alloc, save.as_str(), session, ROOMY)?;
-    let resumed = run_session(alloc, resume.as_str(), saved.out.bytes(), ROOMY)?;
-    Some((saved, resumed))
+fn save_and_resume(alloc: Global, session: &[u8], parts: (&str, &str)) -> Option<Ran> {
+    let saved = run_steps(alloc, "save", session, parts.0)?;
+    if saved.status != 0 {
+        return None;
+    }
+    run_steps(alloc, "resume", saved.out.bytes(), parts.1)
 }
 
 /// Wherever they are saved, they come to where they come without.
 #[test]
 fn saved_guests_go_on(rt: HostRuntime) {
-    let alloc = rt.alloc();
     for session in &SESSIONS {
-        let whole = run_session(alloc, "mbx host s.txt", session, ROOMY).expect(&rt, "memory");
+        let whole = run_session(rt.alloc(), "mbx host s.txt", session, ROOMY);
+        let whole = whole.expect(&rt, "memory");
         for &parts in &PARTS {
-            let (saved, resumed) = save_and_resume(alloc, session, parts).expect(&rt, "memory");
-            assert!(rt; saved.status == 0, "{}", parts.0);
-            assert!(rt; resumed.status == 0, "{}", parts.0);
-            assert!(rt; resumed.out.bytes() == whole.out.bytes(), "{}", parts.0);
+            let resumed = save_and_resume(rt.alloc(), session, parts).expect(&rt, "a snapshot");
+            let same = resumed.status == 0 && resumed.out.bytes() == whole.out.bytes();
+            assert!(rt; same, "{}", parts.0);
         }
     }
 }
