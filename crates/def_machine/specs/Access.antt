@@ -1,9 +1,11 @@
 -- Access: where a reference to memory leads, by a rule of keeping.
-use Rattle.std.specs.Prelude.{ℕ, ◌+◌, ◌*◌, ◌/◌, ◌%◌, ◌^◌, ◌==◌, ◌&&◌, not, Bool, true, false, if◌then◌else◌}
+use Rattle.std.specs.Prelude.{ℕ, ◌+◌, ◌*◌, ◌==◌, ◌&&◌, not, Bool, true, false, if◌then◌else◌}
 use Rattle.std.specs.Prelude.{Option, Some, None}
 use Rattle.mb_port.specs.declared.types.Space.{Space}
 use Rattle.mb_port.specs.declared.types.Space.TheVariants.{User, Super}
 use Rattle.mb_port.specs.declared.types.Mmu.{Mmu}
+use Rattle.mb_port.specs.declared.translation.TheConstants.{E}
+use Rattle.mb_port.specs.Bits.{has_bit}
 use Rattle.mb_model.specs.declared.kept.Kept.{Kept}
 use Rattle.mb_model.specs.Pages.{page_of, offset_of, has_big_pages}
 use Rattle.mb_model.specs.declared.pages.TheConstants.{PAGE_SIZE}
@@ -25,9 +27,9 @@ abbrev pub matched : Bool → Mmu → Space → ℕ → Option Bool
 matched true mmu space page = transparent_of mmu.itt0 mmu.itt1 space page
 matched false mmu space page = transparent_of mmu.dtt0 mmu.dtt1 space page
 
--- E, bit 15 of TC
+-- E of TC
 abbrev pub is_translating : Mmu → Bool
-is_translating mmu = mmu.tc / 2 ^ 15 % 2 == 1
+is_translating mmu = has_bit mmu.tc E
 
 abbrev pub or_off : Mmu → Option Bool → Option Bool
 or_off mmu (Some protected) = Some protected

@@ -7,7 +7,8 @@ ghost use Rattle.def_machine.specs.Access.{untranslated, admits, by_entry, marks
 
 use crate::reference::{Reference, Settled};
 use mb_model::{Kept, PAGE_SIZE};
-use mb_port::{Mmu, Space};
+use mb_port::translation::E;
+use mb_port::{Mmu, Space, long_has};
 use mb_walk::transparent;
 
 /// Points 1 and 2: whether writes are refused where the physical address is the logical one. `None` where it is not.
@@ -20,7 +21,7 @@ pub fn untranslated(mmu: &Mmu, r: Reference) -> Option<bool>
     } else {
         transparent(mmu.dtt0, mmu.dtt1, r.space, r.at)
     };
-    if matched.is_none() && mmu.tc >> 15 & 1 == 0 {
+    if matched.is_none() && !long_has(mmu.tc, E) {
         Some(false)
     } else {
         matched

@@ -10,6 +10,7 @@ use Rattle.mb_port.specs.declared.types.Place.{Place}
 use Rattle.mb_port.specs.declared.types.Fault.{Fault}
 use Rattle.mb_instr.specs.declared.registers.Regs.{Regs}
 use Rattle.mb_instr.specs.declared.vectors.TheConstants.{ODD_COUNTER, ZERO_DIVIDE, OUT_OF_BOUNDS, CONDITION_MET, TRACE}
+use Rattle.mb_instr.specs.declared.status.TheConstants.{I, LEVELS, M, S}
 use Rattle.mb_instr.specs.Registers.{is_master}
 use Rattle.mb_frames.specs.declared.frame.Access.{Access}
 use Rattle.mb_frames.specs.declared.frame.Frame.{Frame}
@@ -39,15 +40,15 @@ has_address vector =
 
 -- S is set, T1 and T0 are cleared
 abbrev pub supervised : ℕ → ℕ
-supervised sr = 2 ^ 13 + sr % 2 ^ 13
+supervised sr = S + sr % S
 
 -- M is cleared
 abbrev pub without_master : ℕ → ℕ
-without_master sr = sr / 2 ^ 13 * 2 ^ 13 + sr % 2 ^ 12
+without_master sr = sr / S * S + sr % M
 
 -- the interrupt mask is the level
 abbrev pub with_mask : ℕ → ℕ → ℕ
-with_mask level sr = sr / 2 ^ 11 * 2 ^ 11 + level * 2 ^ 8 + sr % 2 ^ 8
+with_mask level sr = sr / (LEVELS * I) * (LEVELS * I) + level * I + sr % I
 
 -- what the handler of a cause begins with, but for M
 abbrev pub handler_sr : Cause → ℕ → ℕ
@@ -55,7 +56,7 @@ handler_sr c sr = if is_interrupt c then with_mask c.level (supervised sr) else 
 
 -- the saved SR in a throwaway frame: S is set
 abbrev pub thrown_sr : ℕ → ℕ
-thrown_sr sr = bit_or sr (2 ^ 13)
+thrown_sr sr = bit_or sr S
 
 -- ---- frames
 

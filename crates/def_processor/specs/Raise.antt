@@ -1,8 +1,10 @@
 -- Exceptions in a step: how each is entered, and what follows where its frame has no place.
-use Rattle.std.specs.Prelude.{ℕ, ◌+◌, ◌-◌, ◌/◌, ◌%◌, ◌^◌, ◌==◌, ◌||◌, ◌&&◌, bit_or, Bool, true, false, if◌then◌else◌}
+use Rattle.std.specs.Prelude.{ℕ, ◌+◌, ◌-◌, ◌%◌, ◌==◌, ◌||◌, ◌&&◌, bit_or, Bool, true, false, if◌then◌else◌}
 use Rattle.std.specs.Prelude.{Some, None, Result, Ok, Err}
 use Rattle.mb_port.specs.Routine.{Routine, Return, Then, caught, choose}
 use Rattle.mb_port.specs.declared.types.Fault.{Fault}
+use Rattle.mb_port.specs.Bits.{has_bit}
+use Rattle.mb_instr.specs.declared.status.TheConstants.{T0, T1}
 use Rattle.mb_instr.specs.declared.vectors.TheConstants.{ACCESS_ERROR, TRACE, INTERRUPT}
 use Rattle.mb_frames.specs.declared.frame.Access.{Access}
 use Rattle.mb_frames.specs.declared.status_bits.TheConstants.{CT}
@@ -39,11 +41,11 @@ by_its_end ((ended, cpu), s) = ((step_end ended, cpu), s)
 
 -- T1 asks for a trace after each instruction
 abbrev pub traces_all : ℕ → Bool
-traces_all sr = sr / 2 ^ 15 % 2 == 1
+traces_all sr = has_bit sr T1
 
 -- T0 asks for a trace after each change of flow
 abbrev pub traces_flow : ℕ → Bool
-traces_flow sr = sr / 2 ^ 14 % 2 == 1
+traces_flow sr = has_bit sr T0
 
 -- a trace is due after an instruction that is done, by the bits at its start and whether it changed the flow
 abbrev pub is_due : ℕ → Bool → Bool
@@ -51,9 +53,9 @@ is_due sr flow = traces_all sr || (traces_flow sr && flow)
 
 -- ---- access errors
 
--- CT: a trace was due. It is bit 13 of SSW.
+-- CT: a trace was due
 abbrev pub has_ct : Access → Bool
-has_ct access = access.ssw / 2 ^ 13 % 2 == 1
+has_ct access = has_bit access.ssw CT
 
 abbrev pub with_ct : Bool → Access → Access
 with_ct due access = if due then record access { ssw = bit_or access.ssw CT } else access

@@ -2,6 +2,7 @@
 use Rattle.std.specs.Prelude.{ℕ, zero, suc, ◌-◌, ◌/◌, ◌%◌, ◌^◌, ◌==◌, ◌&&◌, not, nat_le}
 use Rattle.std.specs.Prelude.{Bool, true, false, if◌then◌else◌, List, [], ◌∷◌, ◌++◌, slice_index, Option, Some, None}
 use Rattle.std.specs.Prelude.{Result, Ok, Err}
+use Rattle.mb_port.specs.Bits.{has_bit}
 use Rattle.mb_port.specs.Routine.{Routine, Return, Then, ◌>>=◌, caught, choose, failing}
 use Rattle.mb_port.specs.declared.types.Space.TheVariants.{Super}
 use Rattle.mb_instr.specs.declared.size.Size.TheVariants.{Word, Long}
@@ -14,6 +15,7 @@ use Rattle.mb_instr.specs.declared.vectors.TheConstants.{FORMAT_ERROR}
 use Rattle.mb_instr.specs.Sizes.{bytes_of}
 use Rattle.mb_instr.specs.Registers.{is_supervisor, active_stack, with_stack, plain_of, with_plain}
 use Rattle.mb_frames.specs.declared.frame.Access.{Access}
+use Rattle.mb_frames.specs.declared.status_bits.TheConstants.{CM}
 use Rattle.mb_frames.specs.Layout.{frame_length}
 use Rattle.mb_frames.specs.declared.places.TheConstants.{SR_PLACE, PC_PLACE, FORMAT_PLACE, FIELDS_PLACE}
 use Rattle.mb_frames.specs.Reading.{access_by, format_of_word}
@@ -79,7 +81,7 @@ access_longs = (frame_length 7 - FIELDS_PLACE) / 4
 
 -- CM: the access error came from a transfer of a MOVEM
 abbrev pub continues : Access → Bool
-continues a = a.ssw / 2 ^ 12 % 2 == 1
+continues a = has_bit a.ssw CM
 
 -- MOVEM, to registers or to memory
 abbrev pub is_movem : Move → Bool
@@ -127,7 +129,7 @@ abbrev pub access_or_format_error : Access → Regs → Result Taken Ended
 access_or_format_error a r =
     if continues a && not (can_continue a) then Err format_error else Ok (record { regs = r; access = Some a })
 
--- $7: thirteen longs are behind the format word
+-- $7: all longs behind the format word are read
 abbrev pub take_access_of : Head → Regs → Routine (Result Taken Ended)
 take_access_of head r = do
   longs ← read_or_end (read_longs_of access_longs (sum (active_stack r) FIELDS_PLACE) [])

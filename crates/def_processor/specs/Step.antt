@@ -12,6 +12,7 @@ use Rattle.mb_instr.specs.Codes.{words_of}
 use Rattle.mb_instr.specs.Shapes.{operands_at}
 use Rattle.mb_instr.specs.Rows.{row, system_row}
 use Rattle.mb_instr.specs.Registers.{is_supervisor, plain_of}
+use Rattle.mb_instr.specs.Registers as registers
 use Rattle.mb_frames.specs.declared.pend.Pend.{Pend}
 use Rattle.mb_port.specs.declared.types.Fault.{Fault}
 use Rattle.mb_frames.specs.AccessFields.{no_fields, read_fields, write_fields, line_fields, access_fields}
@@ -178,9 +179,8 @@ execute_next_of cpu =
 
 -- ---- a step
 
--- the interrupt mask, bits 10 to 8 of SR
 abbrev pub interrupt_mask : Cpu → ℕ
-interrupt_mask cpu = cpu.regs.sr / 2 ^ 8 % 2 ^ 3
+interrupt_mask cpu = registers.interrupt_mask cpu.regs.sr
 
 -- how high an interrupt of a level stands beside a mask: one that is not masked is above every mask
 abbrev pub rank : ℕ → ℕ

@@ -2,8 +2,10 @@
 use Rattle.std.specs.Prelude.{ℕ, ◌+◌, ◌-◌, ◌/◌, ◌%◌, ◌^◌, ◌==◌, ◌&&◌, nat_le, nat_lt, Bool, true, false, if◌then◌else◌}
 use Rattle.std.specs.Prelude.{List, [], ◌∷◌, ◌++◌}
 use Rattle.mb_port.specs.declared.types.Piece.{Piece}
+use Rattle.mb_port.specs.Bits.{has_bit}
 use Rattle.mb_port.specs.Pieces.{unlaid}
 use Rattle.mb_instr.specs.declared.vectors.TheConstants.{FIRST_TRAP}
+use Rattle.mb_frames.specs.declared.status_bits.TheConstants.{SIZE, V}
 use Rattle.mb_frames.specs.declared.frame.Access.{Access}
 use Rattle.mb_frames.specs.declared.frame.Frame.{Frame}
 use Rattle.mb_frames.specs.declared.frame.Frame.TheVariants as frame
@@ -44,17 +46,17 @@ cause_in f vector = cause_at vector (pc_of f) (address_in f vector)
 
 -- ---- writebacks
 
--- V, bit 7 of a writeback's status
+-- V of a writeback's status
 abbrev pub is_valid : ℕ → Bool
-is_valid status = status / 2 ^ 7 % 2 == 1
+is_valid status = has_bit status V
 
 -- SIZE: 00 long, 01 byte, 10 word, 11 line, as bytes
 abbrev pub length_by : ℕ → ℕ
 length_by code = if code == 1 then 1 else if code == 2 then 2 else if code == 3 then 16 else 4
 
--- SIZE of a writeback's status, bits 6 and 5
+-- SIZE of a writeback's status
 abbrev pub length_in : ℕ → ℕ
-length_in status = length_by (status / 2 ^ 5 % 4)
+length_in status = length_by (status / SIZE % 4)
 
 -- the first writeback has its data where the memory's long has them, the others have them in the low bytes
 abbrev pub first_pend : Access → Pend

@@ -1,8 +1,9 @@
 -- The board is made ready for a guest, and stays so.
-use Rattle.std.specs.Prelude.{◌≡◌, ℕ, ◌+◌, ◌/◌, ◌%◌, ◌^◌, ◌<◌, ◌≤◌, Bool, false, Some, None, length, take, drop}
+use Rattle.std.specs.Prelude.{◌≡◌, ℕ, ◌+◌, ◌*◌, ◌/◌, ◌%◌, ◌^◌, ◌<◌, ◌≤◌, Bool, false, Some, None, length, take, drop}
 use Rattle.mb_port.specs.declared.types.Space.{Space}
 use Rattle.mb_port.specs.declared.types.Space.TheVariants.{User, Super}
 use Rattle.mb_port.specs.declared.types.Mmu.{Mmu}
+use Rattle.mb_port.specs.declared.translation.TheConstants.{E, MASK, S}
 use Rattle.mb_model.specs.Keeping.{rule_a, nothing_kept}
 use Rattle.mb_walk.specs.Memory.{AreBytes, part}
 use Rattle.def_machine.specs.World.{World}
@@ -16,13 +17,14 @@ use Rattle.law_mirror.specs.Related.{Site, Related}
 use Rattle.def_guests.specs.Seats.{on_board}
 use Rattle.mb_model.specs.declared.pages.TheConstants.{PAGE_SIZE}
 
--- the board's translation registers while a guest runs: user space by its tables, the supervisor's operands as they are
+-- the board's translation registers while a guest runs: user space by its tables, and the supervisor's operands at
+-- their own addresses, all of which DTT0 matches
 abbrev pub native_mmu : ℕ → Mmu
 native_mmu root = record {
-  tc = 0x8000;
+  tc = E;
   itt0 = 0;
   itt1 = 0;
-  dtt0 = 0x00FFA000;
+  dtt0 = 0xFF * MASK + S + E;
   dtt1 = 0;
   mmusr = 0;
   urp = root;

@@ -1,16 +1,17 @@
 -- The read that a board's access error tells.
-use Rattle.std.specs.Prelude.{◌/◌, ◌%◌, ◌^◌, ◌==◌, ◌&&◌, not, Bool, false, if◌then◌else◌, Option, Some, None}
+use Rattle.std.specs.Prelude.{◌%◌, ◌==◌, ◌&&◌, not, Bool, false, if◌then◌else◌, Option, Some, None}
 use Rattle.mb_port.specs.declared.types.Space.{Space}
+use Rattle.mb_port.specs.Bits.{has_bit}
+use Rattle.mb_frames.specs.declared.status_bits.TheConstants.{LK, RW}
 use Rattle.mb_frames.specs.declared.frame.Access.{Access}
 use Rattle.mb_frames.specs.declared.frame.Frame.{Frame}
 use Rattle.def_processor.specs.Return.{continues}
 use Rattle.def_machine.specs.declared.reference.Reference.{Reference}
 use Rattle.def_guests.specs.Exits.{frame_access}
 
--- a fetch or a read of an operand was refused: of the special status word RW, bit 8, is set, and neither LK, bit 9,
--- nor CM
+-- a fetch or a read of an operand was refused: of the special status word RW is set, and neither LK nor CM
 abbrev pub is_read : Access → Bool
-is_read a = not (continues a) && (a.ssw / 2 ^ 8 % 2 == 1 && not (a.ssw / 2 ^ 9 % 2 == 1))
+is_read a = not (continues a) && (has_bit a.ssw RW && not (has_bit a.ssw LK))
 
 -- TM, the low three bits, is 2 or 6 for code
 abbrev pub is_code : Access → Bool

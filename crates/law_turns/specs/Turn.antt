@@ -1,6 +1,7 @@
 -- A turn of a guest by parts: steps over its own bus, runs of the board, and what the board left.
-use Rattle.std.specs.Prelude.{◌≡◌, ℕ, ◌+◌, ◌%◌, ◌^◌, ◌≤◌, Bool, false, List, length, Some, None}
+use Rattle.std.specs.Prelude.{◌≡◌, ℕ, ◌+◌, ◌-◌, ◌*◌, ◌%◌, ◌^◌, ◌≤◌, Bool, false, List, length, Some, None}
 use Rattle.mb_port.specs.Routine.{run}
+use Rattle.mb_instr.specs.declared.status.TheConstants.{I, LEVELS}
 use Rattle.mb_instr.specs.Registers.{plain_of}
 use Rattle.mb_model.specs.declared.processor.Cpu.{Cpu}
 use Rattle.mb_model.specs.declared.outcome.RunState.{RunState}
@@ -29,9 +30,9 @@ use Rattle.mb_frames.specs.declared.places.TheConstants.{LONGEST}
 
 -- ---- the board is made ready again
 
--- the monitor's processor: user mode with mask 7 and no trace, vectors at 0, and a stack
+-- the monitor's processor: user mode with all interrupts masked and no trace, vectors at 0, and a stack
 pub record IsNativeCpu (x : Site) (c : Cpu) : Type 0 where
-  pub status : c.regs.sr ≡ 0x0700
+  pub status : c.regs.sr ≡ (LEVELS - 1) * I
   pub awake : c.stopped ≡ false
   pub vectors : c.vbr ≡ 0
   pub stack : LONGEST ≤ c.regs.isp

@@ -8,15 +8,9 @@ ghost use Rattle.mb_frames.specs.AccessFields.{with_writeback_1, with_writeback_
 ghost use Rattle.mb_frames.specs.AccessFields.{AccessCase, access_fields};
 ghost use Rattle.mb_writes.specs.Transfers.{refused_transfer};
 
-use mb_frames::{ATC, Access, CM, LK, MA, Pend, RW};
-use mb_port::{Fault, Space};
+use mb_frames::{ATC, Access, CM, LK, MA, Pend, RW, SIZE, TT, V};
+use mb_port::{Fault, LINE, Space};
 use mb_writes::{Movem, MovemFault, WriteFault};
-
-/// A writeback that is valid.
-const VALID: u16 = 1 << 7;
-
-/// The bytes of a line.
-const LINE: u8 = 16;
 
 /// SIZE: the code of a length.
 fn size_code(len: u8) -> u16
@@ -57,7 +51,7 @@ fn access_bits(len: u8, space: Space, code: bool) -> u16
     ensures value { result ≡ access_bits len space code }
     ensures range { result < 2 ^ 7 }
 {
-    size_code(len) * 32 + transfer_type(len) * 8 + transfer_modifier(space, code)
+    size_code(len) * SIZE + transfer_type(len) * TT + transfer_modifier(space, code)
 }
 
 /// A bit where it is set.
@@ -84,7 +78,7 @@ fn status(fault: &Fault, start: u32, page: u32) -> u16
 fn writeback_status(space: Space, len: u8) -> u16
     ensures { result ≡ writeback_status space len }
 {
-    VALID + access_bits(len, space, false)
+    V + access_bits(len, space, false)
 }
 
 /// The value of a piece in the low bytes of a long.

@@ -4,20 +4,20 @@ ghost use Rattle.std.specs.Prelude.{◌≡◌, ◌<◌};
 ghost use Rattle.def_processor.specs.Entry.{supervised, without_master, with_mask, handler_sr, thrown_sr};
 
 use def_processor::Cause;
-use mb_instr::{MASTER, SUPERVISOR};
+use mb_instr::status::{I, LEVELS, M, S};
 
 /// With S set, T1 and T0 cleared.
 fn supervised(sr: u16) -> u16
     ensures { result ≡ supervised sr }
 {
-    SUPERVISOR + sr % SUPERVISOR
+    S + sr % S
 }
 
 /// With M cleared.
 pub(crate) fn without_master(sr: u16) -> u16
     ensures { result ≡ without_master sr }
 {
-    sr / SUPERVISOR * SUPERVISOR + sr % MASTER
+    sr / S * S + sr % M
 }
 
 /// With the level as the interrupt mask.
@@ -25,7 +25,7 @@ fn with_mask(level: u8, sr: u16) -> u16
     requires { level < 8 }
     ensures { result ≡ with_mask level sr }
 {
-    sr / 2048 * 2048 + u16::from(level) * 256 + sr % 256
+    sr / (LEVELS * I) * (LEVELS * I) + u16::from(level) * I + sr % I
 }
 
 /// What the handler begins with, but for M.
@@ -44,5 +44,5 @@ pub(crate) fn handler_status(cause: &Cause, sr: u16) -> u16
 pub(crate) fn thrown_status(sr: u16) -> u16
     ensures { result ≡ thrown_sr sr }
 {
-    sr | SUPERVISOR
+    sr | S
 }

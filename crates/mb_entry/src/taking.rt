@@ -12,11 +12,11 @@ ghost use Rattle.mb_entry.specs.Clauses.{NotTaken};
 use arrayvec::ArrayVec;
 use mb_decode::{Decoded, decode};
 use mb_ea::{ReadFault, read_value};
-use mb_frames::{Access, FIELDS_PLACE, FORMAT_PLACE, LONGEST, PC_PLACE, SR_PLACE};
+use mb_frames::{Access, CM, FIELDS_PLACE, FORMAT_PLACE, LONGEST, PC_PLACE, SR_PLACE};
 use mb_instr::vectors::FORMAT_ERROR;
 use mb_instr::{Instr, Move, Regs, Size};
 use mb_model::kept_status;
-use mb_port::{Port, Space};
+use mb_port::{Port, Space, word_has};
 use mb_writes::{Ended, count};
 
 /// The formats of frames.
@@ -63,7 +63,7 @@ fn read_head<P: Port>(at: u32, port: &mut P) -> Result<Head, ReadFault>
 fn read_longs<P: Port>(at: u32, port: &mut P) -> Result<ArrayVec<u32, LONGS>, ReadFault>
     ensures means { run P.bus (read_longs_of access_longs at []) (P.world port.old)
         ≡ (longs_read result, P.world port.new) }
-    ensures all { IfOk result (λ longs. length longs.items ≡ 13) }
+    ensures all { IfOk result (λ longs. length longs.items ≡ LONGS) }
     ensures rest { P.rest port.new ≡ P.rest port.old }
 {
     let mut longs = ArrayVec::new();
@@ -117,12 +117,11 @@ fn access_from(longs: &[u32]) -> Access
     }
 }
 
-/// CM, bit 12 of the special status word: whether the access error came from a transfer of a MOVEM, with which RTE
-/// goes on.
+/// CM of the special status word: whether the access error came from a transfer of a MOVEM, with which RTE goes on.
 pub fn continues(access: &Access) -> bool
     ensures { result ≡ continues access.now }
 {
-    access.ssw >> 12 & 1 == 1
+    word_has(access.ssw, CM)
 }
 
 /// Whether the instruction is a MOVEM.

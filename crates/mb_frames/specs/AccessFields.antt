@@ -1,6 +1,6 @@
 -- What the frame of an access error holds, in each of its five cases. The places of the fields and of
 -- their bits are the processor's; what stands in them in which case is this board's own choice.
-use Rattle.std.specs.Prelude.{ℕ, ◌+◌, ◌*◌, ◌/◌, ◌%◌, ◌^◌, ◌==◌, ◌&&◌, Bool, true, false, not, if◌then◌else◌, Option, Some, None, List, slice_get, slice_index}
+use Rattle.std.specs.Prelude.{ℕ, ◌+◌, ◌*◌, ◌/◌, ◌%◌, ◌==◌, ◌&&◌, Bool, true, false, not, if◌then◌else◌, Option, Some, None, List, slice_get, slice_index}
 use Rattle.mb_port.specs.declared.types.Space.{Space}
 use Rattle.mb_port.specs.declared.types.Space.TheVariants.{User, Super}
 use Rattle.mb_port.specs.declared.types.Fault.{Fault}
@@ -8,7 +8,7 @@ use Rattle.mb_port.specs.declared.types.Piece.{Piece}
 use Rattle.mb_port.specs.Pieces.{laid, span_of}
 use Rattle.mb_frames.specs.declared.frame.Access.{Access}
 use Rattle.mb_frames.specs.declared.pend.Pend.{Pend}
-use Rattle.mb_frames.specs.declared.status_bits.TheConstants.{CM, MA, ATC, LK, RW}
+use Rattle.mb_frames.specs.declared.status_bits.TheConstants.{CM, MA, ATC, LK, RW, V, SIZE, TT}
 
 -- SIZE: 00 long, 01 byte, 10 word, 11 line
 abbrev pub size_code : ℕ → ℕ
@@ -25,9 +25,9 @@ transfer_modifier User true = 2
 transfer_modifier Super false = 5
 transfer_modifier Super true = 6
 
--- the low seven bits of SSW and WBnS: SIZE 6-5, TT 4-3, TM 2-0
+-- the low seven bits of SSW and WBnS: SIZE, TT and TM
 abbrev pub access_bits : (len : ℕ) → Space → (code : Bool) → ℕ
-access_bits len space code = size_code len * 2 ^ 5 + transfer_type len * 2 ^ 3 + transfer_modifier space code
+access_bits len space code = size_code len * SIZE + transfer_type len * TT + transfer_modifier space code
 
 -- a bit where it is set
 abbrev pub bit_if : Bool → ℕ → ℕ
@@ -43,9 +43,9 @@ status fault start page =
     bit_if (fault.atc && is_other_page page fault.at start) MA + bit_if fault.atc ATC
     + access_bits fault.len fault.space fault.code
 
--- WBnS of a writeback that is valid: V 7; the data space of the fault
+-- WBnS of a writeback that is still to be made: the data space of the fault
 abbrev pub writeback_status : Space → (len : ℕ) → ℕ
-writeback_status space len = 2 ^ 7 + access_bits len space false
+writeback_status space len = V + access_bits len space false
 
 -- the piece that is pending
 abbrev pub piece_of : Pend → Piece

@@ -36,8 +36,7 @@ pub enum Frame {
 pub struct Access {
     /// The effective address: the first byte of the operand that was being accessed.
     pub ea: u32,
-    /// The special status word: CP 15, CU 14, CT 13, CM 12, MA 11, ATC 10, LK 9, RW 8 (1 is a
-    /// read), X 7, SIZE 6-5, TT 4-3, TM 2-0.
+    /// The special status word: CT 13, CM 12, MA 11, ATC 10, LK 9, RW 8, SIZE 6-5, TT 4-3, TM 2-0.
     pub ssw: u16,
     /// The status of writeback 3: V 7, SIZE 6-5, TT 4-3, TM 2-0.
     pub wb3s: u16,

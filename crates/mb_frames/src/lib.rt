@@ -16,4 +16,4 @@ pub use frame::{Access, Frame};
 pub use laws::{no_trace_bit, worked_frames};
 pub use pend::Pend;
 pub use places::{FIELDS_PLACE, FORMAT_PLACE, LONGEST, PC_PLACE, SR_PLACE};
-pub use status_bits::{ATC, CM, CT, LK, MA, RW};
+pub use status_bits::{ATC, CM, CT, LK, MA, RW, SIZE, TT, V};

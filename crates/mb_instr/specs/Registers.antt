@@ -1,15 +1,21 @@
 -- The registers that user mode sees, as a part of all registers.
-use Rattle.std.specs.Prelude.{ℕ, ◌+◌, ◌-◌, ◌/◌, ◌%◌, ◌^◌, ◌==◌, Bool, nat_lt, [], ◌∷◌, ◌++◌, take, slice_index, slice_set, if◌then◌else◌}
+use Rattle.std.specs.Prelude.{ℕ, ◌+◌, ◌-◌, ◌/◌, ◌%◌, ◌^◌, Bool, nat_lt, [], ◌∷◌, ◌++◌, take, slice_index, slice_set, if◌then◌else◌}
+use Rattle.mb_port.specs.Bits.{has_bit}
+use Rattle.mb_instr.specs.declared.status.TheConstants.{I, LEVELS, M, S}
 use Rattle.mb_instr.specs.declared.registers.Plain.{Plain}
 use Rattle.mb_instr.specs.declared.registers.Regs.{Regs}
 
 -- S: supervisor mode
 abbrev pub is_supervisor : ℕ → Bool
-is_supervisor sr = sr / 2 ^ 13 % 2 == 1
+is_supervisor sr = has_bit sr S
 
 -- M: the master stack
 abbrev pub is_master : ℕ → Bool
-is_master sr = sr / 2 ^ 12 % 2 == 1
+is_master sr = has_bit sr M
+
+-- the interrupt mask
+abbrev pub interrupt_mask : ℕ → ℕ
+interrupt_mask sr = sr / I % LEVELS
 
 -- A7: USP where S is clear, ISP where S is set and M is clear, MSP where both are set
 abbrev pub active_stack : Regs → ℕ

@@ -14,6 +14,7 @@ mod operand;
 mod registers;
 mod rule;
 mod size;
+pub mod status;
 pub mod vectors;
 
 pub use control::ControlRegister;
@@ -26,6 +27,6 @@ pub use kinds::{
 pub use laws::operands_stand;
 pub use opcode::Opcode;
 pub use operand::{Ea, Ext, OperandClass, is_full};
-pub use registers::{MASTER, Plain, Regs, SUPERVISOR};
+pub use registers::{Plain, Regs};
 pub use rule::WordRule;
 pub use size::Size;

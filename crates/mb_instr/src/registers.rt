@@ -2,13 +2,11 @@
 
 ghost use Rattle.std.specs.Prelude.{◌≡◌, ◌<◌};
 ghost use Rattle.mb_instr.specs.Registers.{register_of, with_register};
-ghost use Rattle.mb_instr.specs.Registers.{is_supervisor, is_master, active_stack, with_stack, plain_of, with_plain};
+ghost use Rattle.mb_instr.specs.Registers.{is_supervisor, is_master, interrupt_mask};
+ghost use Rattle.mb_instr.specs.Registers.{active_stack, with_stack, plain_of, with_plain};
 
-/// S of the status register: supervisor mode.
-pub const SUPERVISOR: u16 = 1 << 13;
-
-/// M of the status register: the master stack.
-pub const MASTER: u16 = 1 << 12;
+use crate::status::{I, LEVELS, M, S};
+use mb_port::word_has;
 
 /// The registers that a program in user mode sees.
 #[derive(Clone, Copy, Debug, PartialEq, Eq)]
@@ -62,7 +60,7 @@ pub struct Regs {
     /// A7 in supervisor mode, where M is set.
     pub msp: u32,
     pub pc: u32,
-    /// T1 and T0 in bits 15 and 14, S in 13, M in 12, the interrupt mask in 10 to 8, CCR in 4 to 0.
+    /// Its upper byte has the bits of [`status`](crate::status), and CCR stands in bits 4 to 0.
     pub sr: u16,
 }
 
@@ -72,7 +70,7 @@ impl Regs {
     pub fn is_supervisor(&self) -> bool
         ensures { result ≡ is_supervisor self.now.sr }
     {
-        self.sr >> 13 & 1 == 1
+        word_has(self.sr, S)
     }
 
     /// M: the master stack, where S is set.
@@ -80,7 +78,15 @@ impl Regs {
     pub fn is_master(&self) -> bool
         ensures { result ≡ is_master self.now.sr }
     {
-        self.sr >> 12 & 1 == 1
+        word_has(self.sr, M)
+    }
+
+    /// The interrupt mask.
+    #[inline(always)]
+    pub fn interrupt_mask(&self) -> u8
+        ensures { result ≡ interrupt_mask self.now.sr }
+    {
+        (self.sr / I % LEVELS) as u8
     }
 
     /// A7: the stack pointer that S and M choose.

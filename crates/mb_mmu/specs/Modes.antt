@@ -1,13 +1,15 @@
 -- How a memory management unit translates.
-use Rattle.std.specs.Prelude.{ℕ, ◌/◌, ◌%◌, ◌^◌, ◌==◌, ◌||◌, ◌&&◌, Bool, true, false, not}
+use Rattle.std.specs.Prelude.{ℕ, ◌/◌, ◌%◌, ◌==◌, ◌||◌, ◌&&◌, Bool, true, false, not}
 use Rattle.mb_port.specs.declared.types.Mmu.{Mmu}
+use Rattle.mb_port.specs.declared.translation.TheConstants.{E, S}
+use Rattle.mb_port.specs.Bits.{has_bit}
 use Rattle.def_machine.specs.Access.{is_translating}
 use Rattle.mb_mmu.specs.declared.modes.Mode.{Mode}
 use Rattle.mb_mmu.specs.declared.modes.Mode.TheVariants.{Direct, Tables, UserTables, Registers}
 
--- E, bit 15 of a transparent register
+-- E of a transparent register
 abbrev pub is_enabled : ℕ → Bool
-is_enabled register = register / 2 ^ 15 % 2 == 1
+is_enabled register = has_bit register E
 
 -- a transparent register is on
 abbrev pub has_transparent : Mmu → Bool
@@ -17,9 +19,9 @@ has_transparent mmu = is_enabled mmu.itt0 || is_enabled mmu.itt1 || is_enabled m
 abbrev pub is_off : Mmu → Bool
 is_off mmu = not (has_transparent mmu || is_translating mmu)
 
--- a register that is on serves user space: its S field, bits 14 and 13, is not the supervisor's alone
+-- a register that is on serves user space: its S field is not the supervisor's alone
 abbrev pub serves_user : ℕ → Bool
-serves_user register = is_enabled register && not (register / 2 ^ 13 % 4 == 1)
+serves_user register = is_enabled register && not (register / S % 4 == 1)
 
 -- some register does
 abbrev pub has_user : Mmu → Bool

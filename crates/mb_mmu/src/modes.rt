@@ -4,7 +4,8 @@ ghost use Rattle.std.specs.Prelude.{◌≡◌};
 ghost use Rattle.mb_mmu.specs.Modes.{has_transparent, has_user, is_enabled as has_enabled, mode_of as translates};
 ghost use Rattle.mb_mmu.specs.Modes.{serves_user};
 
-use mb_port::Mmu;
+use mb_port::translation::{E, S};
+use mb_port::{Mmu, long_has};
 
 /// How the memory management unit translates, in short.
 #[derive(Clone, Copy, Debug, PartialEq, Eq)]
@@ -19,11 +20,11 @@ pub enum Mode {
     Registers,
 }
 
-/// E, bit 15 of TC and of a transparent register.
+/// E of TC and of a transparent register.
 fn is_enabled(register: u32) -> bool
     ensures { result ≡ has_enabled register }
 {
-    register >> 15 & 1 == 1
+    long_has(register, E)
 }
 
 /// Whether a transparent register is on.
@@ -33,12 +34,11 @@ fn is_transparent(mmu: &Mmu) -> bool
     is_enabled(mmu.itt0) || is_enabled(mmu.itt1) || is_enabled(mmu.dtt0) || is_enabled(mmu.dtt1)
 }
 
-/// Whether a transparent register is on that serves user space: its S field, bits 14 and 13, is not the supervisor's
-/// alone.
+/// Whether a transparent register is on that serves user space: its S field is not the supervisor's alone.
 fn serves_user(register: u32) -> bool
     ensures { result ≡ serves_user register }
 {
-    is_enabled(register) && register >> 13 & 3 != 1
+    is_enabled(register) && register / S % 4 != 1
 }
 
 /// Whether some transparent register does.

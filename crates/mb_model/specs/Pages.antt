@@ -1,6 +1,8 @@
 -- Pages of memory.
-use Rattle.std.specs.Prelude.{ℕ, ◌+◌, ◌-◌, ◌/◌, ◌%◌, ◌^◌, ◌==◌, Bool, if◌then◌else◌}
+use Rattle.std.specs.Prelude.{ℕ, ◌+◌, ◌-◌, ◌/◌, ◌%◌, ◌==◌, Bool, if◌then◌else◌}
 use Rattle.mb_port.specs.declared.types.Mmu.{Mmu}
+use Rattle.mb_port.specs.declared.translation.TheConstants.{P}
+use Rattle.mb_port.specs.Bits.{has_bit}
 use Rattle.mb_model.specs.declared.pages.TheConstants.{PAGE_SIZE, BIG_PAGE_SIZE}
 
 -- the number of the page that an address lies in
@@ -13,9 +15,9 @@ offset_of at = at % PAGE_SIZE
 
 -- ---- pages of 8 KiB
 
--- P, bit 14 of TC: the tables are those of pages of 8 KiB
+-- P of TC: the tables are those of pages of 8 KiB
 abbrev pub has_big_pages : Mmu → Bool
-has_big_pages mmu = mmu.tc / 2 ^ 14 % 2 == 1
+has_big_pages mmu = has_bit mmu.tc P
 
 -- the bytes of a page of the tables
 abbrev pub page_size_by : Mmu → ℕ

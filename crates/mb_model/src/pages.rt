@@ -3,7 +3,8 @@
 ghost use Rattle.std.specs.Prelude.{◌≡◌, ◌<◌, ◌^◌};
 ghost use Rattle.mb_model.specs.Pages.{page_of, has_big_pages as has_big, page_size_by as size_by, other_half as other};
 
-use mb_port::Mmu;
+use mb_port::translation::P;
+use mb_port::{Mmu, long_has};
 
 /// The bytes of a page, and of a frame.
 pub const PAGE_SIZE: u32 = 4096;
@@ -20,12 +21,12 @@ pub fn page_of(at: u32) -> u32
     at / PAGE_SIZE
 }
 
-/// Whether the tables are those of pages of 8 KiB: P, bit 14 of TC.
+/// Whether the tables are those of pages of 8 KiB: P of TC.
 #[inline(always)]
 pub fn has_big_pages(mmu: &Mmu) -> bool
     ensures { result ≡ has_big mmu.now }
 {
-    mmu.tc >> 14 & 1 == 1
+    long_has(mmu.tc, P)
 }
 
 /// The bytes of a page of the tables.

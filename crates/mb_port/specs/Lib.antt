@@ -1,3 +1,4 @@
+pub mod Bits
 pub mod Routine
 pub mod Flushes
 pub mod Pieces

@@ -19,12 +19,15 @@ pub struct Piece {
     pub len: u8,
 }
 
+/// The bytes of a line, which MOVE16 moves.
+pub const LINE: u8 = 16;
+
 /// A refused access.
 #[derive(Clone, Copy, Debug, PartialEq, Eq)]
 pub struct Fault {
     /// The logical address of the piece that was refused.
     pub at: u32,
-    /// Its length in bytes; 16 for a line.
+    /// Its length in bytes; [`LINE`] for a line.
     pub len: u8,
     pub space: Space,
     /// An instruction word, not an operand.

@@ -1,8 +1,7 @@
 -- The registers that user mode sees, apart from the processor and put into it.
 use Rattle.std.proofs.Common.{◌≡◌, ◌∙◌, ◌<◌, ℕ, ◌/◌, ◌%◌, ◌^◌, ◌==◌, Bool, true, false, cond, List, [], ◌∷◌, ◌++◌}
 use Rattle.std.proofs.Common.{take, length, length-append, arith, refl, ap, subst, sym}
-use Rattle.std.proofs.lemmas.Nat.{and_mask}
-use Rattle.std.specs.Prelude.{◌||◌, ◌&&◌, bit_and, slice_index}
+use Rattle.std.specs.Prelude.{◌||◌, ◌&&◌, slice_index}
 use Rattle.mb_port.specs.declared.types.Space.TheVariants.{User, Super}
 use Rattle.mb_instr.specs.declared.registers.Plain.{Plain}
 use Rattle.mb_instr.specs.declared.registers.Regs.{Regs}
@@ -42,9 +41,6 @@ same_space p cpu = ap (λ (s : Bool). cond s Super User) (sym (same_supervisor c
 
 pub same_mask : (p : Plain) (cpu : Cpu) → interrupt_mask cpu ≡ interrupt_mask (with_registers p cpu)
 same_mask p cpu = ap (λ (n : ℕ). n % 2 ^ 3) (sym (high8 cpu.regs.sr p.ccr))
-
-pub mask_bits : (sr : ℕ) → bit_and (sr / 256) 7 ≡ sr / 2 ^ 8 % 2 ^ 3
-mask_bits sr = and_mask (sr / 256) 3
 
 pub same_due : (p : Plain) (cpu : Cpu) (flow : Bool) → is_due cpu.regs.sr flow ≡ is_due (with_registers p cpu).regs.sr flow
 same_due p cpu flow =

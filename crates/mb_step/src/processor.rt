@@ -7,6 +7,7 @@ ghost use Rattle.def_processor.specs.Raise.{is_due};
 ghost use Rattle.def_processor.specs.Step.{interrupt_mask};
 
 use mb_instr::Plain;
+use mb_instr::status::T0;
 use mb_model::Cpu;
 use mb_port::Space;
 use mb_writes::Ended;
@@ -100,15 +101,15 @@ impl Processor {
     pub fn is_traced(&self) -> bool
         ensures { result ≡ false → (flow : _) → is_due self.now.regs.sr flow ≡ false }
     {
-        self.cpu.regs.sr >= 0x4000
+        self.cpu.regs.sr >= T0
     }
 
-    /// The interrupt mask, bits 10 to 8 of the status register.
+    /// The interrupt mask.
     #[inline(always)]
     pub fn interrupt_mask(&self) -> u8
         ensures { result ≡ interrupt_mask self.now }
     {
-        (self.cpu.regs.sr >> 8 & 7) as u8
+        self.cpu.regs.interrupt_mask()
     }
 
     /// The program counter.

@@ -11,10 +11,11 @@ ghost use Rattle.def_processor.specs.Raise.{trace_if_of, raise_trap_of, refuse_o
 use def_processor::Finish;
 use mb_entry::{Cause, Entered, check_fields, enter};
 use mb_frames::{Access, CT};
+use mb_instr::status::{T0, T1};
 use mb_instr::vectors::{ACCESS_ERROR, INTERRUPT, TRACE};
 use mb_instr::{Plain, Regs};
 use mb_model::Cpu;
-use mb_port::{Fault, Port};
+use mb_port::{Fault, Port, word_has};
 use std::mem::{replace, swap};
 
 /// T1 asks for a trace after each instruction.
@@ -22,7 +23,7 @@ use std::mem::{replace, swap};
 pub(crate) fn traces_all(sr: u16) -> bool
     ensures { result ≡ traces_all sr }
 {
-    sr >> 15 & 1 == 1
+    word_has(sr, T1)
 }
 
 /// T0 asks for a trace after each change of flow.
@@ -30,7 +31,7 @@ pub(crate) fn traces_all(sr: u16) -> bool
 fn traces_flow(sr: u16) -> bool
     ensures { result ≡ traces_flow sr }
 {
-    sr >> 14 & 1 == 1
+    word_has(sr, T0)
 }
 
 /// Whether a trace is due after an instruction that is done, by the bits at its start.
@@ -39,7 +40,7 @@ pub(crate) fn is_due(sr: u16, flow: bool) -> bool
     ensures { result ≡ is_due sr flow }
 {
     // Mostly no trace bit is set, which one test tells.
-    if sr < 0x4000 {
+    if sr < T0 {
         return false;
     }
     traces_all(sr) || (traces_flow(sr) && flow)
@@ -49,7 +50,7 @@ pub(crate) fn is_due(sr: u16, flow: bool) -> bool
 pub(crate) fn has_ct(access: &Access) -> bool
     ensures { result ≡ has_ct access.now }
 {
-    access.ssw >> 13 & 1 == 1
+    word_has(access.ssw, CT)
 }
 
 /// The fields with CT, where a trace is due. A return by their frame then asks for it.

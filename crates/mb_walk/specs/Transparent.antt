@@ -2,15 +2,17 @@
 use Rattle.std.specs.Prelude.{ℕ, ◌/◌, ◌%◌, ◌^◌, ◌==◌, ◌&&◌, Bool, not, if◌then◌else◌, bit_or, Option, Some, None}
 use Rattle.mb_port.specs.declared.types.Space.{Space}
 use Rattle.mb_port.specs.declared.types.Space.TheVariants.{User, Super}
+use Rattle.mb_port.specs.declared.translation.TheConstants.{BASE, E, MASK, S, W}
+use Rattle.mb_port.specs.Bits.{has_bit}
 use Rattle.mb_walk.specs.declared.transparency.TransparentRegister.{TransparentRegister}
 
 abbrev pub transparent_register : ℕ → TransparentRegister
 transparent_register long = record {
-  enabled = long / 2 ^ 15 % 2 == 1;
-  spaces = long / 2 ^ 13 % 4;
-  base = long / 2 ^ 24;
-  ignored = long / 2 ^ 16 % 2 ^ 8;
-  protected = long / 2 ^ 2 % 2 == 1;
+  enabled = has_bit long E;
+  spaces = long / S % 4;
+  base = long / BASE;
+  ignored = long / MASK % 2 ^ 8;
+  protected = has_bit long W;
 }
 
 abbrev pub admits_space : ℕ → Space → Bool

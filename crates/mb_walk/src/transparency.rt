@@ -4,7 +4,8 @@ ghost use Rattle.std.specs.Prelude.{◌≡◌};
 ghost use Rattle.mb_model.specs.Pages.{page_of};
 ghost use Rattle.mb_walk.specs.Transparent.{transparent_register, transparent_of, matches as does_match};
 
-use mb_port::Space;
+use mb_port::translation::{BASE, E, MASK, S, W};
+use mb_port::{Space, long_has};
 
 /// A transparent translation register.
 #[derive(Clone, Copy, Debug, PartialEq, Eq)]
@@ -28,11 +29,11 @@ impl TransparentRegister {
         ensures { result ≡ transparent_register long }
     {
         TransparentRegister {
-            enabled: long >> 15 & 1 == 1,
-            spaces: long >> 13 & 3,
-            base: long >> 24,
-            ignored: long >> 16 & 0xFF,
-            protected: long >> 2 & 1 == 1,
+            enabled: long_has(long, E),
+            spaces: long / S % 4,
+            base: long / BASE,
+            ignored: long / MASK % 256,
+            protected: long_has(long, W),
         }
     }
 

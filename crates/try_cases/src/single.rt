@@ -5,7 +5,7 @@ use crate::fault::CaseFault;
 use crate::fields::{next_long, next_longs, next_status, read_long};
 use crate::memory::Stretches;
 use crate::registers::{A0, ISP, PC, Registers, SR, USP};
-use mb_instr::SUPERVISOR;
+use mb_instr::status::S;
 use std::alloc::{AllocError, Global};
 use std::str::SplitWhitespace;
 
@@ -34,7 +34,7 @@ fn read_vector(word: &str) -> Result<(u32, u32), CaseFault> {
 /// `MOVE #n,SR` where the case is in user mode, or `MOVE #n,CCR`, by the word and the immediate.
 fn add_status(code: &mut Vec<u8>, sr: u32) -> Result<(), AllocError> {
     let status = (sr % 0x1_0000) as u16;
-    if status & SUPERVISOR == 0 {
+    if status & S == 0 {
         add_word(code, 0x46FC)?;
         add_word(code, status)
     } else {

@@ -7,7 +7,7 @@ use crate::fault::CaseFault;
 use crate::fields::{next_long, next_longs, next_status, next_word};
 use crate::memory::Stretches;
 use crate::registers::{A0, COUNT, D0, ISP, ITT0, MSP, PC, Registers, SR, TC, URP, USP, VBR};
-use mb_instr::MASTER;
+use mb_instr::status::M;
 use std::alloc::{AllocError, Global};
 use std::str::SplitWhitespace;
 
@@ -69,7 +69,7 @@ fn add_stack(code: &mut Vec<u8>, status: u16, top: u32) -> Result<(), AllocError
 
 /// The stack that M does not choose, and then the one that it does, which has the frame of the RTE.
 fn add_stacks(code: &mut Vec<u8>, before: &Registers) -> Result<(), AllocError> {
-    if before[SR] & u32::from(MASTER) == 0 {
+    if before[SR] & u32::from(M) == 0 {
         add_stack(code, 0x3700, before[MSP])?;
         add_stack(code, 0x2700, before[ISP].wrapping_sub(8))
     } else {

@@ -1,6 +1,7 @@
 -- The board as it carries out a guest's instructions.
-use Rattle.std.specs.Prelude.{◌≡◌, ℕ, ◌+◌, ◌≤◌, false, List, length, replicate, slice_range, Some}
+use Rattle.std.specs.Prelude.{◌≡◌, ℕ, ◌+◌, ◌-◌, ◌*◌, ◌≤◌, false, List, length, replicate, slice_range, Some}
 use Rattle.mb_port.specs.Routine.{run}
+use Rattle.mb_instr.specs.declared.status.TheConstants.{I, LEVELS}
 use Rattle.mb_instr.specs.declared.registers.Plain.{Plain}
 use Rattle.mb_frames.specs.declared.frame.Frame.{Frame}
 use Rattle.mb_frames.specs.Reading.{frame_in}
@@ -35,7 +36,7 @@ native_cpu = record {
     isp = MONITOR_BYTES;
     msp = 0;
     pc = 0;
-    sr = 0x0700;
+    sr = (LEVELS - 1) * I;
   };
   vbr = 0;
   sfc = 0;

@@ -5,8 +5,10 @@ ghost use Rattle.def_guests.specs.Exits.{class_of_vector, is_refusal};
 ghost use Rattle.def_guests.specs.Classes.{assisted};
 
 use def_guests::Class;
+use mb_instr::status::{T0, T1};
 use mb_instr::vectors::{ACCESS_ERROR, ILLEGAL, LINE_A, LINE_F, ODD_COUNTER, PRIVILEGED};
 use mb_model::Cpu;
+use mb_port::word_has;
 use mb_step::rank;
 
 /// The class of a step that has begun, with an interrupt of this level asked for, where the board has no part in it: an
@@ -14,12 +16,12 @@ use mb_step::rank;
 pub(crate) fn assisted(level: u8, cpu: &Cpu) -> Option<Class>
     ensures { result ≡ assisted level cpu.now }
 {
-    let mask = (cpu.regs.sr >> 8 & 7) as u8;
-    if rank(level) > mask {
+    let sr = cpu.regs.sr;
+    if rank(level) > cpu.regs.interrupt_mask() {
         Some(Class::Entered)
     } else if cpu.stopped {
         Some(Class::Idle)
-    } else if cpu.regs.sr >> 14 & 3 != 0 {
+    } else if word_has(sr, T1) || word_has(sr, T0) {
         Some(Class::Traced)
     } else {
         None

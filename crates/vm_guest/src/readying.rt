@@ -9,9 +9,14 @@ ghost use Rattle.vm_guest.specs.Native.{native_cpu, ready};
 
 use def_guests::MONITOR_BYTES;
 use mb_board::Board;
+use mb_instr::status::{I, LEVELS};
 use mb_instr::{Plain, Regs};
 use mb_model::Cpu;
+use mb_port::translation::{E, MASK, S};
 use mb_port::{MmuReg, Port};
+
+/// The transparent register that matches each address of supervisor space.
+const ALL_OF_SUPERVISOR: u32 = 0xff * MASK + S + E;
 
 /// The processor with which the board carries out a guest: user mode with all interrupts masked and no trace, vectors
 /// at 0, and these registers.
@@ -26,7 +31,7 @@ fn native_cpu(plain: &Plain) -> Cpu
         isp: MONITOR_BYTES,
         msp: 0,
         pc: 0,
-        sr: 0x0700,
+        sr: (LEVELS - 1) * I,
     };
     regs.set_plain(plain);
     Cpu {
@@ -58,8 +63,8 @@ pub(crate) fn make_ready(board: &mut Board, root: u32, plain: &Plain)
         ≡ board_at_reset (ready root board.old.world.devices board.old.world.ram plain.now) }
 {
     board.reset();
-    board.set_mmu(MmuReg::Tc, 0x8000);
-    board.set_mmu(MmuReg::Dtt0, 0x00FF_A000);
+    board.set_mmu(MmuReg::Tc, E);
+    board.set_mmu(MmuReg::Dtt0, ALL_OF_SUPERVISOR);
     board.set_mmu(MmuReg::Urp, root);
     board.set_cpu(&native_cpu(plain));
 }

@@ -13,8 +13,8 @@ ghost use Rattle.vm_guest.specs.Stops.{with_bus_of};
 use crate::guest::Guest;
 use def_machine::Reference;
 use mb_entry::continues;
-use mb_frames::{Access, Frame};
-use mb_port::Space;
+use mb_frames::{Access, Frame, LK, RW};
+use mb_port::{Space, word_has};
 use mb_walk::Ram;
 use vm_port::GuestPort;
 
@@ -22,7 +22,7 @@ use vm_port::GuestPort;
 fn is_read(access: &Access) -> bool
     ensures { result ≡ is_read access.now }
 {
-    !continues(access) && access.ssw >> 8 & 1 == 1 && access.ssw >> 9 & 1 == 0
+    !continues(access) && word_has(access.ssw, RW) && !word_has(access.ssw, LK)
 }
 
 /// The read that was refused, as the guest makes it in this space.

@@ -8,24 +8,22 @@ ghost use Rattle.def_runs.specs.Frames.{is_valid, length_in, first_pend, pending
 use arrayvec::ArrayVec;
 use def_runs::LeftOver;
 use mb_entry::continues;
-use mb_frames::{Access, Pend};
+use mb_frames::{Access, Pend, SIZE, V};
+use mb_port::{LINE, word_has};
 use mb_writes::part;
-
-/// The bytes of a line.
-const LINE: u8 = 16;
 
 /// V of a writeback's status: it is still to be made.
 fn is_valid(status: u16) -> bool
     ensures { result ≡ is_valid status }
 {
-    status >> 7 & 1 == 1
+    word_has(status, V)
 }
 
 /// The bytes of a writeback, by SIZE of its status.
 fn length_in(status: u16) -> u8
     ensures { result ≡ length_in status }
 {
-    match status >> 5 & 3 {
+    match status / SIZE % 4 {
         1 => 1,
         2 => 2,
         3 => LINE,
