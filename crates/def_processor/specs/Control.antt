@@ -2,6 +2,7 @@
 use Rattle.std.specs.Prelude.{ℕ, bit_and, Bool, Option, Some, None}
 use Rattle.mb_port.specs.Routine.{Routine, Return, Then, choose, mmu, set_mmu}
 use Rattle.mb_port.specs.Registers.{mmu_register}
+use Rattle.mb_port.specs.declared.types.MmuReg.{MmuReg}
 use Rattle.mb_instr.specs.Registers.{plain_of, register_of, with_register}
 use Rattle.mb_writes.specs.declared.ends.Ended.{Ended}
 use Rattle.mb_writes.specs.declared.ends.Ended.TheVariants as ended
@@ -17,27 +18,39 @@ use Rattle.def_processor.specs.SystemEnds.{SystemRowed, with_registers, completi
 abbrev pub named_control_in : ℕ → Option ControlRegister
 named_control_in word = control_of (control_word word).code
 
--- what a control register holds; those of the memory management unit stand at the bus
+-- where a control register stands: what it holds, and how it comes to hold a value
+pub record Stand : Type 1 where
+  pub value : Cpu → Routine ℕ
+  pub set : ℕ → Cpu → Routine Cpu
+
+abbrev pub in_processor : (value : Cpu → ℕ) → (set : ℕ → Cpu → Cpu) → Stand
+in_processor value set = record { value = λ cpu. Return (value cpu); set = λ n cpu. Return (set n cpu) }
+
+-- the registers of the memory management unit
+abbrev pub at_bus : MmuReg → Stand
+at_bus which = record {
+  value = λ cpu. Then mmu (λ registers. Return (mmu_register registers which));
+  set = λ n cpu. Then (set_mmu which n) (λ done. Return cpu);
+}
+
+-- a line a register
+abbrev pub stand_of : ControlRegister → Stand
+stand_of control.Sfc = in_processor (λ cpu. cpu.sfc) (λ n cpu. record cpu { sfc = n })
+stand_of control.Dfc = in_processor (λ cpu. cpu.dfc) (λ n cpu. record cpu { dfc = n })
+stand_of control.Cacr = in_processor (λ cpu. cpu.cacr) (λ n cpu. record cpu { cacr = n })
+stand_of control.Usp = in_processor (λ cpu. cpu.regs.usp) (λ n cpu. record cpu { regs = record cpu.regs { usp = n } })
+stand_of control.Vbr = in_processor (λ cpu. cpu.vbr) (λ n cpu. record cpu { vbr = n })
+stand_of control.Msp = in_processor (λ cpu. cpu.regs.msp) (λ n cpu. record cpu { regs = record cpu.regs { msp = n } })
+stand_of control.Isp = in_processor (λ cpu. cpu.regs.isp) (λ n cpu. record cpu { regs = record cpu.regs { isp = n } })
+stand_of (control.Mmu which) = at_bus which
+
+-- what a control register holds
 abbrev pub control_value_of : ControlRegister → Cpu → Routine ℕ
-control_value_of control.Sfc cpu = Return cpu.sfc
-control_value_of control.Dfc cpu = Return cpu.dfc
-control_value_of control.Cacr cpu = Return cpu.cacr
-control_value_of control.Usp cpu = Return cpu.regs.usp
-control_value_of control.Vbr cpu = Return cpu.vbr
-control_value_of control.Msp cpu = Return cpu.regs.msp
-control_value_of control.Isp cpu = Return cpu.regs.isp
-control_value_of (control.Mmu which) cpu = Then mmu (λ registers. Return (mmu_register registers which))
+control_value_of register cpu = (stand_of register).value cpu
 
 -- a control register holds this now
 abbrev pub set_control_of : ControlRegister → ℕ → Cpu → Routine Cpu
-set_control_of control.Sfc value cpu = Return (record cpu { sfc = value })
-set_control_of control.Dfc value cpu = Return (record cpu { dfc = value })
-set_control_of control.Cacr value cpu = Return (record cpu { cacr = value })
-set_control_of control.Usp value cpu = Return (record cpu { regs = record cpu.regs { usp = value } })
-set_control_of control.Vbr value cpu = Return (record cpu { vbr = value })
-set_control_of control.Msp value cpu = Return (record cpu { regs = record cpu.regs { msp = value } })
-set_control_of control.Isp value cpu = Return (record cpu { regs = record cpu.regs { isp = value } })
-set_control_of (control.Mmu which) value cpu = Then (set_mmu which value) (λ done. Return cpu)
+set_control_of register n cpu = (stand_of register).set n cpu
 
 -- MOVEC to a control register: it keeps those bits of register n of all sixteen that it has
 abbrev pub move_to_control_of : ControlRegister → ℕ → Cpu → Routine Cpu

@@ -1,6 +1,7 @@
 pub mod Sizes
 pub mod Kinds
 pub mod Control
+pub mod ControlRows
 pub mod Rules
 pub mod Opcodes
 pub mod FurtherWords

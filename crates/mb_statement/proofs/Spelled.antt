@@ -26,7 +26,8 @@ use Rattle.mb_syntax.specs.Names.{register_of, register_number}
 use Rattle.mb_syntax.specs.Tables.{found_in}
 use Rattle.mb_syntax.specs.Words.{word_of, name_word, number_word, number_of, marks, digits_behind, place_of}
 use Rattle.mb_statement.specs.Numbers.{last_digits, number}
-use Rattle.mb_statement.specs.Texts.{numbered, control_text, caches_text}
+use Rattle.mb_instr.specs.Control.{control_name}
+use Rattle.mb_statement.specs.Texts.{numbered, caches_text}
 use Rattle.mb_statement.specs.Written.{is_name}
 use Rattle.mb_statement.proofs.Digits.{Spells, last_spells}
 use Rattle.mb_statement.proofs.Lexemes.{ArePlain, Lexeme, IsLexeme, both, ends, ends_run}
@@ -124,7 +125,7 @@ register_bytes (register.NoAddress n) = 90 ∷ numbered true n
 register_bytes register.NoPc = codes "ZPC"
 register_bytes register.Sr = codes "SR"
 register_bytes register.Ccr = codes "CCR"
-register_bytes (register.Control c) = control_text c
+register_bytes (register.Control c) = control_name c
 
 abbrev pub is_numbered : Register → Bool
 is_numbered (register.Data n) = nat_le n 7
@@ -148,24 +149,24 @@ digit_number n h =
 digit_part : (n : ℕ) → is_name_part (48 + n % 8) ≡ true
 digit_part n = grind (arith, nat_tests)
 
-pub control_name : (c : ControlRegister) → is_name (control_text c) ≡ true
-control_name control.Sfc = refl
-control_name control.Dfc = refl
-control_name control.Cacr = refl
-control_name (control.Mmu mmu.Tc) = refl
-control_name (control.Mmu mmu.Itt0) = refl
-control_name (control.Mmu mmu.Itt1) = refl
-control_name (control.Mmu mmu.Dtt0) = refl
-control_name (control.Mmu mmu.Dtt1) = refl
-control_name (control.Mmu mmu.Mmusr) = refl
-control_name (control.Mmu mmu.Urp) = refl
-control_name (control.Mmu mmu.Srp) = refl
-control_name control.Usp = refl
-control_name control.Vbr = refl
-control_name control.Msp = refl
-control_name control.Isp = refl
+pub control_is_name : (c : ControlRegister) → is_name (control_name c) ≡ true
+control_is_name control.Sfc = refl
+control_is_name control.Dfc = refl
+control_is_name control.Cacr = refl
+control_is_name (control.Mmu mmu.Tc) = refl
+control_is_name (control.Mmu mmu.Itt0) = refl
+control_is_name (control.Mmu mmu.Itt1) = refl
+control_is_name (control.Mmu mmu.Dtt0) = refl
+control_is_name (control.Mmu mmu.Dtt1) = refl
+control_is_name (control.Mmu mmu.Mmusr) = refl
+control_is_name (control.Mmu mmu.Urp) = refl
+control_is_name (control.Mmu mmu.Srp) = refl
+control_is_name control.Usp = refl
+control_is_name control.Vbr = refl
+control_is_name control.Msp = refl
+control_is_name control.Isp = refl
 
-control_said : (c : ControlRegister) → register_of (control_text c) ≡ Some (register.Control c)
+control_said : (c : ControlRegister) → register_of (control_name c) ≡ Some (register.Control c)
 control_said control.Sfc = refl
 control_said control.Dfc = refl
 control_said control.Cacr = refl
@@ -191,7 +192,7 @@ register_name register.Pc = refl
 register_name register.NoPc = refl
 register_name register.Sr = refl
 register_name register.Ccr = refl
-register_name (register.Control c) = control_name c
+register_name (register.Control c) = control_is_name c
 
 register_said : (r : Register) → is_numbered r ≡ true → register_of (register_bytes r) ≡ Some r
 register_said (register.Data n) h = rw (digit_number n h) refl

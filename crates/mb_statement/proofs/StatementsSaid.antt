@@ -32,11 +32,12 @@ use Rattle.mb_syntax.specs.declared.operand.Operand.TheVariants as operand
 use Rattle.mb_syntax.specs.Words.{name_word}
 use Rattle.mb_statement.specs.Statements.{Statement}
 use Rattle.mb_statement.specs.Written.{is_field_number, is_mode, is_name, is_operand, is_register}
-use Rattle.mb_statement.specs.Texts.{begins, caches_text, control_text, ends, has, field_number_text, field_text, general, listed, listed_below}
+use Rattle.mb_instr.specs.Control.{control_name}
+use Rattle.mb_statement.specs.Texts.{begins, caches_text, ends, has, field_number_text, field_text, general, listed, listed_below}
 use Rattle.mb_statement.specs.Texts.{list_text, operand_text, operands_behind, size_text, statement_text}
 use Rattle.mb_statement.proofs.Lexemes.{Lexeme, IsLexeme, both, ends_run, spelled}
 use Rattle.mb_statement.proofs.Spelled.{blank, blank_is, cache, cache_is, close_brace, close_brace_is, close_mark, close_is, colon, colon_is, comma_is}
-use Rattle.mb_statement.proofs.Spelled.{control_name, dot, dot_is, is_numbered, letter_bytes, minus, minus_is, name_is, named, open_brace_is}
+use Rattle.mb_statement.proofs.Spelled.{control_is_name, dot, dot_is, is_numbered, letter_bytes, minus, minus_is, name_is, named, open_brace_is}
 use Rattle.mb_statement.proofs.Spelled.{open_mark, open_is, reg, reg_is, register_bytes, size, size_is, slash, slash_is}
 use Rattle.mb_statement.proofs.ModesRead.{full_lexemes, mode_lexemes, written_index}
 use Rattle.mb_statement.proofs.Fits.{Begins, Fit, ends_kind, fit_append, fit_before, fit_cons, fit_mark, fit_mode, fit_none, fit_one, fit_register, fit_value}
@@ -101,7 +102,7 @@ operand_said (operand.Mode m) = mode_said m
 operand_said (operand.Field m f) = spelled_append (mode_lexemes m) (field_lexemes f) ∙ rw (mode_said m, field_said f) refl
 operand_said operand.Sr = refl
 operand_said operand.Ccr = refl
-operand_said (operand.Control c) = append-nil (control_text c)
+operand_said (operand.Control c) = append-nil (control_name c)
 operand_said (operand.List mask) = list_said mask
 operand_said (operand.Pair n m) = refl
 operand_said (operand.IndirectPair n m) = rw (general_said n, general_said m) refl
@@ -327,7 +328,7 @@ unblank_operand (operand.Mode m) = unblank_mode m
 unblank_operand (operand.Field m f) = unblank_append (mode_lexemes m) (field_lexemes f) (unblank_mode m) (λ rest e. refl)
 unblank_operand operand.Sr = λ rest e. refl
 unblank_operand operand.Ccr = λ rest e. refl
-unblank_operand (operand.Control c) = unblank_name (control_text c) (λ place. word.Register (register.Control c) place) (control_name c)
+unblank_operand (operand.Control c) = unblank_name (control_name c) (λ place. word.Register (register.Control c) place) (control_is_name c)
 unblank_operand (operand.List mask) = unblank_from mask 0 16
 unblank_operand (operand.Pair n m) = λ rest e. refl
 unblank_operand (operand.IndirectPair n m) = λ rest e. refl

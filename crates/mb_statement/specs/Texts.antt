@@ -6,9 +6,7 @@ use Rattle.mb_instr.specs.declared.kinds.Caches.{Caches}
 use Rattle.mb_instr.specs.declared.kinds.Caches.TheVariants as caches
 use Rattle.mb_syntax.specs.declared.statement.SizeLetter.{SizeLetter}
 use Rattle.mb_syntax.specs.declared.statement.SizeLetter.TheVariants as letter
-use Rattle.mb_instr.specs.declared.control.ControlRegister.{ControlRegister}
-use Rattle.mb_instr.specs.declared.control.ControlRegister.TheVariants as control
-use Rattle.mb_port.specs.declared.types.MmuReg.TheVariants as mmu
+use Rattle.mb_instr.specs.Control.{control_name}
 use Rattle.mb_syntax.specs.declared.mode.Width.{Width}
 use Rattle.mb_syntax.specs.declared.mode.Width.TheVariants as width
 use Rattle.mb_syntax.specs.declared.mode.Scale.{Scale}
@@ -42,23 +40,6 @@ numbered is_address n = letter_code is_address ∷ (48 + n % 8) ∷ []
 -- 0 to 7 are D0 to D7, 8 to 15 are A0 to A7
 abbrev pub general : ℕ → List ℕ
 general n = numbered (not (nat_lt n 8)) n
-
-abbrev pub control_text : ControlRegister → List ℕ
-control_text control.Sfc = codes "SFC"
-control_text control.Dfc = codes "DFC"
-control_text control.Cacr = codes "CACR"
-control_text (control.Mmu mmu.Tc) = codes "TC"
-control_text (control.Mmu mmu.Itt0) = codes "ITT0"
-control_text (control.Mmu mmu.Itt1) = codes "ITT1"
-control_text (control.Mmu mmu.Dtt0) = codes "DTT0"
-control_text (control.Mmu mmu.Dtt1) = codes "DTT1"
-control_text (control.Mmu mmu.Mmusr) = codes "MMUSR"
-control_text (control.Mmu mmu.Urp) = codes "URP"
-control_text (control.Mmu mmu.Srp) = codes "SRP"
-control_text control.Usp = codes "USP"
-control_text control.Vbr = codes "VBR"
-control_text control.Msp = codes "MSP"
-control_text control.Isp = codes "ISP"
 
 abbrev pub caches_text : Caches → List ℕ
 caches_text caches.Neither = codes "NC"
@@ -210,7 +191,7 @@ operand_text (operand.Mode m) = mode_text m
 operand_text (operand.Field m f) = mode_text m ++ field_text f
 operand_text operand.Sr = codes "SR"
 operand_text operand.Ccr = codes "CCR"
-operand_text (operand.Control c) = control_text c
+operand_text (operand.Control c) = control_name c
 operand_text (operand.List mask) = list_text mask
 operand_text (operand.Pair n m) = numbered false n ++ codes ":" ++ numbered false m
 operand_text (operand.IndirectPair n m) = codes "(" ++ general n ++ codes "):(" ++ general m ++ codes ")"

@@ -2,7 +2,7 @@
 
 ghost use Rattle.std.specs.Prelude.{◌≡◌, ◌+◌, ◌*◌, ◌≤◌, ◌++◌, length, true};
 ghost use Rattle.arrayvec.specs.ArrayVec.{array_vec_len};
-ghost use Rattle.mb_statement.specs.Texts.{numbered, general, control_text, caches_text, width_text};
+ghost use Rattle.mb_statement.specs.Texts.{numbered, general, caches_text, width_text};
 ghost use Rattle.mb_statement.specs.Texts.{address_width_text, scale_text, index_text, base_text};
 ghost use Rattle.mb_statement.specs.Texts.{displacement_text, first_text, outer_text};
 ghost use Rattle.mb_statement.specs.Texts.{is_no_index, asks_full, is_left_out, behind_base_text, full_text, mode_text};
@@ -13,8 +13,7 @@ ghost use Rattle.mb_statement.specs.Answers.{statement_said};
 
 use crate::numbers::{LineText, push_signed};
 use crate::statement::Statement;
-use mb_instr::{Caches, ControlRegister};
-use mb_port::MmuReg;
+use mb_instr::Caches;
 use mb_syntax::{
     Base, BitField, Displacement, FieldNumber, FullForm, Index, Indirection, Mode, Operand, Scale,
     SizeLetter, Width,
@@ -45,29 +44,6 @@ fn push_general(line: &mut LineText, n: u8)
     ensures len { array_vec_len line.new ≤ array_vec_len line.old + 2 }
 {
     push_numbered(line, n >= 8, n);
-}
-
-fn control_text(register: ControlRegister) -> &'static [u8]
-    ensures text { result.now ≡ control_text register }
-    ensures short { length result.now ≤ 5 }
-{
-    match register {
-        ControlRegister::Sfc => b"SFC",
-        ControlRegister::Dfc => b"DFC",
-        ControlRegister::Cacr => b"CACR",
-        ControlRegister::Mmu(MmuReg::Tc) => b"TC",
-        ControlRegister::Mmu(MmuReg::Itt0) => b"ITT0",
-        ControlRegister::Mmu(MmuReg::Itt1) => b"ITT1",
-        ControlRegister::Mmu(MmuReg::Dtt0) => b"DTT0",
-        ControlRegister::Mmu(MmuReg::Dtt1) => b"DTT1",
-        ControlRegister::Mmu(MmuReg::Mmusr) => b"MMUSR",
-        ControlRegister::Mmu(MmuReg::Urp) => b"URP",
-        ControlRegister::Mmu(MmuReg::Srp) => b"SRP",
-        ControlRegister::Usp => b"USP",
-        ControlRegister::Vbr => b"VBR",
-        ControlRegister::Msp => b"MSP",
-        ControlRegister::Isp => b"ISP",
-    }
 }
 
 fn caches_text(caches: Caches) -> &'static [u8]
@@ -426,7 +402,7 @@ fn push_operand(line: &mut LineText, operand: &Operand<i64>)
         }
         Operand::Sr => push_bytes(line, b"SR"),
         Operand::Ccr => push_bytes(line, b"CCR"),
-        Operand::Control(register) => push_bytes(line, control_text(*register)),
+        Operand::Control(register) => push_bytes(line, register.name()),
         Operand::List(mask) => push_list(line, *mask),
         Operand::Pair(n, m) => {
             push_numbered(line, false, *n);

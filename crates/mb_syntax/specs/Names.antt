@@ -2,9 +2,7 @@
 use Rattle.std.specs.Prelude.{ℕ, ◌==◌, ◌+◌, ◌-◌, Bool, ◌||◌, if◌then◌else◌, List, [], ◌∷◌, Option, Some, None}
 use Rattle.std.specs.Prelude.{option_map, codes}
 use Rattle.std.specs.Option.{option_or}
-use Rattle.mb_port.specs.declared.types.MmuReg.TheVariants as mmu
-use Rattle.mb_instr.specs.declared.control.ControlRegister.{ControlRegister}
-use Rattle.mb_instr.specs.declared.control.ControlRegister.TheVariants as control
+use Rattle.mb_instr.specs.Control.{control_named}
 use Rattle.mb_instr.specs.declared.kinds.Caches.{Caches}
 use Rattle.mb_instr.specs.declared.kinds.Caches.TheVariants as caches
 use Rattle.mb_asm_text.specs.Kinds.{is_between}
@@ -23,25 +21,6 @@ named_registers =
     ∷ (codes "ZPC", NoPc)
     ∷ (codes "SR", Sr)
     ∷ (codes "CCR", Ccr)
-    ∷ []
-
-abbrev pub control_registers : List (List ℕ × ControlRegister)
-control_registers =
-    (codes "SFC", control.Sfc)
-    ∷ (codes "DFC", control.Dfc)
-    ∷ (codes "CACR", control.Cacr)
-    ∷ (codes "TC", control.Mmu mmu.Tc)
-    ∷ (codes "ITT0", control.Mmu mmu.Itt0)
-    ∷ (codes "ITT1", control.Mmu mmu.Itt1)
-    ∷ (codes "DTT0", control.Mmu mmu.Dtt0)
-    ∷ (codes "DTT1", control.Mmu mmu.Dtt1)
-    ∷ (codes "MMUSR", control.Mmu mmu.Mmusr)
-    ∷ (codes "URP", control.Mmu mmu.Urp)
-    ∷ (codes "SRP", control.Mmu mmu.Srp)
-    ∷ (codes "USP", control.Usp)
-    ∷ (codes "VBR", control.Vbr)
-    ∷ (codes "MSP", control.Msp)
-    ∷ (codes "ISP", control.Isp)
     ∷ []
 
 -- 0 to 7
@@ -74,7 +53,7 @@ numbered_register _ = None
 abbrev pub register_of : List ℕ → Option Register
 register_of name =
     option_or (numbered_register name)
-    (option_or (found_in named_registers name) (option_map Control (found_in control_registers name)))
+    (option_or (found_in named_registers name) (option_map Control (control_named name)))
 
 abbrev pub size_letters : List (List ℕ × SizeLetter)
 size_letters =

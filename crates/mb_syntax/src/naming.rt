@@ -11,7 +11,6 @@ use crate::register::Register;
 use crate::statement::SizeLetter;
 use crate::table::found_in;
 use mb_instr::{Caches, ControlRegister};
-use mb_port::MmuReg;
 
 #[rattlefmt::skip]
 const NAMED_REGISTERS: [(&[u8], Register); 5] = [
@@ -20,25 +19,6 @@ const NAMED_REGISTERS: [(&[u8], Register); 5] = [
     (b"ZPC", Register::NoPc),
     (b"SR", Register::Sr),
     (b"CCR", Register::Ccr),
-];
-
-#[rattlefmt::skip]
-const CONTROL_REGISTERS: [(&[u8], ControlRegister); 15] = [
-    (b"SFC", ControlRegister::Sfc),
-    (b"DFC", ControlRegister::Dfc),
-    (b"CACR", ControlRegister::Cacr),
-    (b"TC", ControlRegister::Mmu(MmuReg::Tc)),
-    (b"ITT0", ControlRegister::Mmu(MmuReg::Itt0)),
-    (b"ITT1", ControlRegister::Mmu(MmuReg::Itt1)),
-    (b"DTT0", ControlRegister::Mmu(MmuReg::Dtt0)),
-    (b"DTT1", ControlRegister::Mmu(MmuReg::Dtt1)),
-    (b"MMUSR", ControlRegister::Mmu(MmuReg::Mmusr)),
-    (b"URP", ControlRegister::Mmu(MmuReg::Urp)),
-    (b"SRP", ControlRegister::Mmu(MmuReg::Srp)),
-    (b"USP", ControlRegister::Usp),
-    (b"VBR", ControlRegister::Vbr),
-    (b"MSP", ControlRegister::Msp),
-    (b"ISP", ControlRegister::Isp),
 ];
 
 const SIZE_LETTERS: [(&[u8], SizeLetter); 4] = [
@@ -74,7 +54,7 @@ pub(crate) fn register_of(name: &[u8]) -> Option<Register>
     if let Some(register) = found_in(&NAMED_REGISTERS, name) {
         return Some(register);
     }
-    let control = found_in(&CONTROL_REGISTERS, name)?;
+    let control = ControlRegister::named(name)?;
     Some(Register::Control(control))
 }
 

@@ -1,8 +1,13 @@
 -- A guest's lines, and those of all guests.
 use Rattle.std.specs.Prelude.{ℕ, ◌+◌, ◌-◌, ◌*◌, ◌==◌, min, Bool, List, [], ◌∷◌, ◌++◌, codes, decimal, Option}
+use Rattle.mb_port.specs.declared.types.MmuReg.TheVariants.{Tc, Itt0, Itt1, Dtt0, Dtt1, Mmusr, Urp, Srp}
+use Rattle.mb_instr.specs.declared.control.ControlRegister.{ControlRegister}
+use Rattle.mb_instr.specs.declared.control.ControlRegister.TheVariants as control
+use Rattle.mb_instr.specs.Control.{control_name, kept_bits}
 use Rattle.mb_model.specs.declared.kept.Kept.{Kept}
 use Rattle.mb_model.specs.declared.outcome.RunState.{RunState}
 use Rattle.mb_model.specs.declared.outcome.RunState.TheVariants.{Running, Stopped, Halted, Off}
+use Rattle.mb_model.specs.declared.status.TheConstants.{STATUS_BITS}
 use Rattle.mb_saved.specs.declared.line.RamLine.{RamLine}
 use Rattle.mb_spelling.specs.Spelling.{Spelling, Either, First, Second, both, either, behind, before, said, shaped, word, more, none}
 use Rattle.mb_spelling.specs.Hex.{May, any_number, masked, within, among, number}
@@ -118,17 +123,24 @@ address_registers =
     (codes "A0", any_number) ∷ (codes "A1", any_number) ∷ (codes "A2", any_number) ∷ (codes "A3", any_number)
     ∷ (codes "A4", any_number) ∷ (codes "A5", any_number) ∷ (codes "A6", any_number) ∷ []
 
+-- a control register that keeps all bits, and one that keeps some
+abbrev pub whole : ControlRegister → List ℕ × May
+whole register = (control_name register, any_number)
+
+abbrev pub partial : ControlRegister → List ℕ × May
+partial register = (control_name register, masked (kept_bits register))
+
 abbrev pub control_registers : List (List ℕ × May)
 control_registers =
-    (codes "USP", any_number) ∷ (codes "ISP", any_number) ∷ (codes "MSP", any_number) ∷ (codes "PC", any_number)
-    ∷ (codes "SR", masked 0xF71F) ∷ (codes "VBR", any_number) ∷ (codes "SFC", masked 0x7) ∷ (codes "DFC", masked 0x7)
-    ∷ (codes "CACR", masked 0x80008000) ∷ []
+    whole control.Usp ∷ whole control.Isp ∷ whole control.Msp ∷ (codes "PC", any_number)
+    ∷ (codes "SR", masked STATUS_BITS) ∷ whole control.Vbr ∷ partial control.Sfc ∷ partial control.Dfc
+    ∷ partial control.Cacr ∷ []
 
 abbrev pub translation_registers : List (List ℕ × May)
 translation_registers =
-    (codes "TC", masked 0xC000) ∷ (codes "ITT0", masked 0xFFFFE364) ∷ (codes "ITT1", masked 0xFFFFE364)
-    ∷ (codes "DTT0", masked 0xFFFFE364) ∷ (codes "DTT1", masked 0xFFFFE364) ∷ (codes "MMUSR", masked 0xFFFFFFF7)
-    ∷ (codes "URP", masked 0xFFFFFE00) ∷ (codes "SRP", masked 0xFFFFFE00) ∷ []
+    partial (control.Mmu Tc) ∷ partial (control.Mmu Itt0) ∷ partial (control.Mmu Itt1) ∷ partial (control.Mmu Dtt0)
+    ∷ partial (control.Mmu Dtt1) ∷ partial (control.Mmu Mmusr) ∷ partial (control.Mmu Urp) ∷ partial (control.Mmu Srp)
+    ∷ []
 
 -- The values of the registers, in the order of their lines.
 pub record Registers : Type 0 where

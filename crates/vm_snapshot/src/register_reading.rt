@@ -11,12 +11,9 @@ ghost use Rattle.vm_snapshot.specs.Views.{control_seen, registers_seen, translat
 
 use crate::line::long;
 use mb_instr::{ControlRegister, Regs};
-use mb_model::Cpu;
+use mb_model::{Cpu, STATUS_BITS};
 use mb_port::{Mmu, MmuReg};
 use mb_spelling::{Numbers, Reader, Stop};
-
-/// The bits that a status register keeps.
-const STATUS_BITS: u32 = 0xf71f;
 
 /// The other registers of the processor.
 #[derive(Clone, Copy)]
@@ -55,7 +52,7 @@ fn register(reader: &mut Reader, name: &[u8], register: ControlRegister) -> Resu
 /// Reads the status register.
 fn status(reader: &mut Reader) -> Result<u16, Stop>
     ensures reads { Reads (λ n. n) result reader.new.left
-        ((long_of (codes "SR") (masked 0xF71F)).read reader.old.left) }
+        ((long_of (codes "SR") (masked STATUS_BITS)).read reader.old.left) }
     ensures lines { lines_to reader.new ≡ lines_to reader.old }
 {
     let bits = long(reader, b"SR ", &Numbers::Masked(STATUS_BITS))?;
