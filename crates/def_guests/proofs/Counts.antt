@@ -71,7 +71,7 @@ step_doubles script t =
     let r = (refills_aside class (refills_of_step script t.guest) (tallied class t.tally)).1 in
     let f : length (t.marks ++ more) ≡ length t.marks + length more = length-append t.marks more in omega arith
 
-turn_counts : (script : Entries) (n : ℕ) (t : Turned) → AsMany t (turn_of script n t)
+pub turn_counts : (script : Entries) (n : ℕ) (t : Turned) → AsMany t (turn_of script n t)
 turn_counts script zero t = ap (λ (u : Turned). steps_in u.tally + t.guest.machine.steps) (nothing_turned script t)
     ∙ ap (λ (u : Turned). steps_in t.tally + u.guest.machine.steps) (sym (nothing_turned script t))
 turn_counts script (suc n) t = elim (cases_Bool (takes_steps t.guest.machine.state)) [
@@ -85,7 +85,7 @@ turn_counts script (suc n) t = elim (cases_Bool (takes_steps t.guest.machine.sta
       let d = ap (λ (u : Turned). u.guest.machine.steps) (halted_turn script (suc n) t still) in omega arith
 ]
 
-turn_doubles : (script : Entries) (n : ℕ) (t : Turned) → Doubled t (turn_of script n t)
+pub turn_doubles : (script : Entries) (n : ℕ) (t : Turned) → Doubled t (turn_of script n t)
 turn_doubles script zero t = ap (λ (u : Turned). u.tally.retired * 2 + length t.marks) (nothing_turned script t)
     ∙ ap (λ (u : Turned). t.tally.retired * 2 + length u.marks) (sym (nothing_turned script t))
 turn_doubles script (suc n) t = elim (cases_Bool (takes_steps t.guest.machine.state)) [
@@ -166,7 +166,7 @@ unfolding reset_with
 counts_are_steps opening script size n = let e = turn_counts script n (prepared opening size) in omega arith
 
 -- behind no step the marks are those of the run
-marks_from_start : (script : Entries) (n : ℕ) (t : Turned) → afresh t ≡ t
+pub marks_from_start : (script : Entries) (n : ℕ) (t : Turned) → afresh t ≡ t
     → turn_of script (n - 0) (afresh (turn_of script 0 t)) ≡ turn_of script n t
 marks_from_start script n t e =
     ap (λ (k : ℕ). turn_of script k (afresh (turn_of script 0 t))) (let z : n - 0 ≡ n = omega arith in z)
@@ -179,7 +179,7 @@ marks_are_of_retired opening script size n =
     let f = ap (λ (u : Turned). length u.marks) (marks_from_start script n p refl) in omega arith
 
 -- marks of a turn that began with others
-marks_behind : (script : Entries) (n : ℕ) (t : Turned) → (turn_of script n t).marks ≡ t.marks ++ (turn_of script n (afresh t)).marks
+pub marks_behind : (script : Entries) (n : ℕ) (t : Turned) → (turn_of script n t).marks ≡ t.marks ++ (turn_of script n (afresh t)).marks
 marks_behind script n t =
     ap (λ (u : Turned). (turn_of script n u).marks) (sym (afresh_before t))
     ∙ ap (λ (u : Turned). u.marks) (marks_stay_before script n t.marks t.exceptions (afresh t))

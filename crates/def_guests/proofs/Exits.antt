@@ -102,7 +102,7 @@ finished_tells bus i cpu (Err stop, t) h = finish_tells bus i stop.ended cpu (wi
 -- ---- a step
 
 -- the instruction that was found; where none was, any
-abbrev found_instr : FoundInstr → Instr
+abbrev pub found_instr : FoundInstr → Instr
 found_instr (Ok found) = found.0
 found_instr (Err unfound) = instr.Flow flow.Nop
 
@@ -110,7 +110,7 @@ no_other : (f : FoundInstr) → NoOther (found_instr f) f
 no_other (Ok found) = refl
 no_other (Err unfound) = tt
 
-attempted_in_user_mode : (i : Instr) (cpu : Cpu) → is_supervisor cpu.regs.sr ≡ false → is_attempted i cpu ≡ true
+pub attempted_in_user_mode : (i : Instr) (cpu : Cpu) → is_supervisor cpu.regs.sr ≡ false → is_attempted i cpu ≡ true
 attempted_in_user_mode (instr.Move i) cpu h = refl
 attempted_in_user_mode (instr.Arith i) cpu h = refl
 attempted_in_user_mode (instr.Flow i) cpu h = refl

@@ -12,11 +12,11 @@ use Rattle.def_guests.proofs.TurnLaws.{halted_turn, going_turn, nothing_turned, 
 
 -- ---- the steps of a turn
 
-advanced_steps : (script : Entries) (t : Turned) → (advanced script t).guest.machine.steps ≡ t.guest.machine.steps + 1
+pub advanced_steps : (script : Entries) (t : Turned) → (advanced script t).guest.machine.steps ≡ t.guest.machine.steps + 1
 advanced_steps script t = refl
 
 -- a machine that still goes has taken them all
-turn_steps : (script : Entries) (n : ℕ) (t : Turned) → takes_steps (turn_of script n t).guest.machine.state ≡ true
+pub turn_steps : (script : Entries) (n : ℕ) (t : Turned) → takes_steps (turn_of script n t).guest.machine.state ≡ true
     → (turn_of script n t).guest.machine.steps ≡ t.guest.machine.steps + n
 turn_steps script zero t h =
     ap (λ (x : Turned). x.guest.machine.steps) (nothing_turned script t)
@@ -33,10 +33,10 @@ turn_steps script (suc n) t h = elim (cases_Bool (takes_steps t.guest.machine.st
 
 -- ---- what a guest has left
 
-left_going : (m : Member) → takes_steps m.guest.machine.state ≡ true → left m ≡ m.bound - m.guest.machine.steps
+pub left_going : (m : Member) → takes_steps m.guest.machine.state ≡ true → left m ≡ m.bound - m.guest.machine.steps
 left_going m h = rw h refl
 
-left_still : (m : Member) → takes_steps m.guest.machine.state ≡ false → left m ≡ 0
+pub left_still : (m : Member) → takes_steps m.guest.machine.state ≡ false → left m ≡ 0
 left_still m h = rw h refl
 
 -- after a turn of no more than it has left
@@ -144,7 +144,7 @@ AllAlong (m ∷ ms) (k ∷ ks) = Along m k × AllAlong ms ks
 AllAlong _ _ = ⊥
 
 -- marks and exceptions before a turn have no part in it
-unmarked_turn : (script : Entries) (n : ℕ) (t : Turned) (m : Member) → closed_by (turn_of script n (afresh t)) m ≡ closed_by (turn_of script n t) m
+pub unmarked_turn : (script : Entries) (n : ℕ) (t : Turned) (m : Member) → closed_by (turn_of script n (afresh t)) m ≡ closed_by (turn_of script n t) m
 unmarked_turn script n t m =
     ap (λ (x : Turned). closed_by x m) (sym (marks_stay_before script n t.marks t.exceptions (afresh t)))
     ∙ ap (λ (x : Turned). closed_by (turn_of script n x) m) (afresh_before t)

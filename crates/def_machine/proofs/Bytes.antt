@@ -1,5 +1,5 @@
 -- Memory stays bytes.
-use Rattle.std.proofs.Common.{ℕ, zero, suc, ◌^◌, ◌<◌, Bool, true, false, List, [], ◌∷◌, ◌++◌, length, take, drop, arith}
+use Rattle.std.proofs.Common.{ℕ, zero, suc, ◌^◌, ◌<◌, Bool, true, false, List, [], ◌∷◌, ◌++◌, length, take, drop}
 use Rattle.std.specs.Prelude.{All, Option, Some, None, Result, Ok, Err, if◌then◌else◌, ◌+◌, unwrap_or}
 use Rattle.std.proofs.lemmas.List.Elements.{All-nil, All-cons, All-append, All-take, All-drop}
 use Rattle.std.specs.Int.{bytes_high_first, byte_at}
@@ -20,20 +20,17 @@ use Rattle.def_machine.specs.World.{World, HasBytes}
 use Rattle.def_machine.specs.Places.{Stand, memory, register, nowhere, taken, taken_at, stored, stored_at, checked, taken_line, stored_line, with_longs}
 use Rattle.def_machine.specs.Access.{search_for, searched, translated, by_settled, by_found}
 use Rattle.def_machine.specs.Bus.{bus_of, read_at, read_by, written_at, written_by, wrote, tested, tested_by, after_set_mmu}
+use Rattle.mb_walk.proofs.LongLemmas.{byte_small}
 
 abbrev pub AreBytes : List ℕ → Type 0
 AreBytes ram = All (λ byte. byte < 2 ^ 8) ram
 
 -- ---- what is written
 
-is_byte : (k n : ℕ) → byte_at k n < 2 ^ 8
-is_byte zero n = omega arith
-is_byte (suc k) n = omega arith
-
 bytes-of : (n value : ℕ) → AreBytes (bytes_high_first n value)
 bytes-of zero value = let P : ℕ → Type 0 = λ byte. byte < 2 ^ 8 in All-nil P
 bytes-of (suc n) value =
-    let P : ℕ → Type 0 = λ byte. byte < 2 ^ 8 in All-cons P (byte_at n value) (bytes_high_first n value) (is_byte n value) (bytes-of n value)
+    let P : ℕ → Type 0 = λ byte. byte < 2 ^ 8 in All-cons P (byte_at n value) (bytes_high_first n value) (byte_small n value) (bytes-of n value)
 
 pub bytes-overwritten : (ram : List ℕ) (at : ℕ) (bytes : List ℕ) → AreBytes ram → AreBytes bytes → AreBytes (overwritten ram at bytes)
 bytes-overwritten ram at bytes h g =

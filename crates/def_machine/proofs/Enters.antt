@@ -37,12 +37,12 @@ use Rattle.def_machine.specs.Enters.{supervising, IsUntranslated, HasRoom, stack
 use Rattle.def_machine.proofs.Pieces.{piece_back, piece_fits, piece_some}
 use Rattle.mb_walk.proofs.Parts.{over-split}
 
-reads_found : {A : Type 0} (rule : Rule) (r : Reference) (len : ℕ) (take : Take A) (w u : World) (p : ℕ) (a : A)
+pub reads_found : {A : Type 0} (rule : Rule) (r : Reference) (len : ℕ) (take : Take A) (w u : World) (p : ℕ) (a : A)
     → translated rule r w ≡ (Some p, u) → take (place_at p len) u ≡ (Some a, u) → read_by rule r len take w ≡ (Ok a, u)
 reads_found {A} rule r len take w u p a e h =
     ap (λ (t : Option ℕ × World). read_at r len take t.0 t.1) e ∙ ap (λ (q : Option A × World). faulting q (fault_of r len false)) h
 
-checked_is : (w : World) (p len : ℕ) → in_ram (length w.ram) p len ≡ true → checked (place_at p len) w ≡ (Some (place_at p len), w)
+pub checked_is : (w : World) (p len : ℕ) → in_ram (length w.ram) p len ≡ true → checked (place_at p len) w ≡ (Some (place_at p len), w)
 checked_is w p len h =
     ap (λ (b : Bool). (let q : Option Place × World = (cond b (Some (place_at p len)) None, w) in q)) (takes_memory w (place_at p len) h)
 

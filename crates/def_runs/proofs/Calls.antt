@@ -26,9 +26,9 @@ use Rattle.def_runs.proofs.Blind.{read-blind, write-blind, get-blind, put-blind,
 use Rattle.def_runs.proofs.KeptLemmas.{kept-behind, flushed-follows, dropped-follows, movec-adds_none, filled-is, filled-first, filled-behind, found-again, found-is_kept}
 
 -- the same answer, in a world that keeps more
-record Met {A : Type 0} (x y : A × World) : Type 0 where
-  answer : y.0 ≡ x.0
-  world : WorldWithin x.1 y.1
+pub record Met {A : Type 0} (x y : A × World) : Type 0 where
+  pub answer : y.0 ≡ x.0
+  pub world : WorldWithin x.1 y.1
 
 -- ---- a translation
 
@@ -94,7 +94,7 @@ translated_met rule r w held stand =
 
 -- ---- what follows it
 
-blind_met : {A : Type 0} (f : World → A × World) → IsBlind f → (w v : World) → WorldWithin w v → Met (f w) (f v)
+pub blind_met : {A : Type 0} (f : World → A × World) → IsBlind f → (w v : World) → WorldWithin w v → Met (f w) (f v)
 blind_met {A} f blind w v h =
     let e : f v ≡ ((f w).0, record (f w).1 { kept = v.kept }) = ap f h.same ∙ blind w v.kept in
     let own = blind-kept f blind w in
@@ -103,7 +103,7 @@ blind_met {A} f blind w v h =
       world = record { same = refl; kept = λ k g. h.kept k (subst (λ (kept : KeptLists). IsKept k kept) own g) };
     })
 
-then_met : {A : Type 0} (g : Option ℕ → World → A × World) → ((o : Option ℕ) → IsBlind (g o)) → (x y : Option ℕ × World) → Met x y
+pub then_met : {A : Type 0} (g : Option ℕ → World → A × World) → ((o : Option ℕ) → IsBlind (g o)) → (x y : Option ℕ × World) → Met x y
     → Met (g x.0 x.1) (g y.0 y.1)
 then_met g blind x y m =
     subst (λ (o : Option ℕ). Met (g x.0 x.1) (g o y.1)) (sym m.answer) (blind_met (g x.0) (blind x.0) x.1 y.1 m.world)
@@ -137,7 +137,7 @@ tested_by_met w held space page write None stand = record {
   };
 }
 
-tested_met : (w : World) (held : KeptLists) (space : Space) (page : ℕ) (write : Bool) → StandIn w.kept held
+pub tested_met : (w : World) (held : KeptLists) (space : Space) (page : ℕ) (write : Bool) → StandIn w.kept held
     → Met (tested space page write w) (tested space page write (record w { kept = [] ∷ held }))
 tested_met w held space page write stand = tested_by_met w held space page write (matched false w.mmu space page) stand
 

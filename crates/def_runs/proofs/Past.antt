@@ -23,7 +23,7 @@ use Rattle.def_runs.proofs.Accesses.{accesses-use_or_search}
 use Rattle.def_runs.proofs.KeptLemmas.{empty, kept-behind, flushed-is, flushed-keeps, dropped-is, dropped-keeps, filled-is, filled-first, filled-behind}
 use Rattle.def_runs.specs.Tidy.{EachAccessSearches, SearchesOut, PastIsWhatWasSearchedOut}
 
-by_match_of : (r : Reference) (w : World) (o : Option Bool) → untranslated w.mmu r ≡ o
+pub by_match_of : (r : Reference) (w : World) (o : Option Bool) → untranslated w.mmu r ≡ o
     → translated rule_free r w ≡ by_settled rule_free w r (by_match rule_free w.kept r o)
 unfolding translated
 by_match_of r w o e = ap (λ (o : Option Bool). by_settled rule_free w r (by_match rule_free w.kept r o)) e

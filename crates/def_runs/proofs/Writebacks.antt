@@ -12,45 +12,21 @@ use Rattle.mb_port.proofs.Laid.{unlaid_laid}
 use Rattle.mb_frames.specs.declared.frame.Access.{Access}
 use Rattle.mb_frames.specs.declared.pend.Pend.{Pend}
 use Rattle.mb_frames.specs.AccessFields.{piece_of, Read, Write, Line, Movem, Check, read_fields, write_fields, line_fields, movem_fields, check_fields}
-use Rattle.mb_frames.specs.AccessFields.{size_code, transfer_type, transfer_modifier, access_bits, bit_if, status, writeback_status}
+use Rattle.mb_frames.specs.AccessFields.{access_bits, bit_if, status, writeback_status}
 use Rattle.mb_frames.specs.AccessFields.{register_aligned, memory_aligned}
-use Rattle.mb_frames.specs.declared.status_bits.TheConstants.{CM, MA, ATC, LK, RW}
+use Rattle.mb_frames.specs.declared.status_bits.TheConstants.{CM, ATC, LK, RW}
 use Rattle.def_processor.specs.Return.{continues}
 use Rattle.def_runs.specs.Frames.{is_valid, length_in, if_valid, pending_in, left_in}
 use Rattle.def_runs.specs.declared.left.LeftOver.{LeftOver}
 use Rattle.def_runs.specs.declared.left.LeftOver.TheVariants as left
 use Rattle.def_runs.specs.Telling.{IsOwn, AreOwn, FramesTell}
+use Rattle.mb_frames.proofs.StatusBits.{access_bits-le, bit_if-le, status-le}
 
 -- pieces that are left, of an operand
 abbrev written : List Pend → ℕ → LeftOver
 written pieces first = left.Writes (record { items = pieces }) first
 
 -- ---- bits
-
-few_set : (set : Bool) (bit : ℕ) → bit_if set bit ≤ bit
-few_set true bit = omega arith
-few_set false bit = omega arith
-
-few_sizes : (len : ℕ) → size_code len ≤ 3
-few_sizes len = grind (arith, nat_tests)
-
-few_types : (len : ℕ) → transfer_type len ≤ 1
-few_types len = grind (arith, nat_tests)
-
-few_modifiers : (space : Space) (code : Bool) → transfer_modifier space code ≤ 6
-few_modifiers User false = omega arith
-few_modifiers User true = omega arith
-few_modifiers Super false = omega arith
-few_modifiers Super true = omega arith
-
-few_bits : (len : ℕ) (space : Space) (code : Bool) → access_bits len space code ≤ 110
-few_bits len space code = let a = few_sizes len in let b = few_types len in let c = few_modifiers space code in omega arith
-
-sums : (a b c : ℕ) → a ≤ 2048 → b ≤ 1024 → c ≤ 110 → a + b + c ≤ 3182
-sums a b c h k l = omega arith
-
-few_status : (fault : Fault) (start page : ℕ) → status fault start page ≤ 3182
-few_status fault start page = sums _ _ _ (few_set _ MA) (few_set fault.atc ATC) (few_bits fault.len fault.space fault.code)
 
 no_cm : (ssw : ℕ) → ssw < 4096 → (ssw / 2 ^ 12 % 2 == 1) ≡ false
 no_cm ssw h = grind (arith, nat_tests)
@@ -114,21 +90,21 @@ own_memory p own = unlaid_laid (piece_of p) p.value ∙ small p.value (span_of (
 tells_read : (fault : Fault) (first page : ℕ) → left_in (read_fields fault first page) ≡ left.Again
 tells_read fault first page =
     let ea = if fault.code then fault.at else first in
-    let a = few_status fault ea page in
-    let b = few_set fault.write LK in
+    let a = status-le fault ea page in
+    let b = bit_if-le fault.write LK in
     rw (no_cm (status fault ea page + bit_if fault.write LK + RW) (omega arith)) refl
 
 tells_movem : (fault : Fault) (first start done words next : ℕ) (is_load : Bool) (page : ℕ)
     → left_in (movem_fields fault first start done words next is_load page) ≡ left.Movem words first done next
 tells_movem fault first start done words next is_load page =
-    let a = few_status fault start page in
-    let b = few_set is_load RW in
+    let a = status-le fault start page in
+    let b = bit_if-le is_load RW in
     rw (has_cm (status fault start page + CM + bit_if is_load RW) (omega arith) (omega arith)) refl
 
 tells_check : (fault : Fault) → left_in (check_fields fault) ≡ left.Again
 tells_check fault =
-    let a = few_bits fault.len Super false in
-    let b = few_set fault.atc ATC in
+    let a = access_bits-le fault.len Super false in
+    let b = bit_if-le fault.atc ATC in
     rw (no_cm (bit_if fault.atc ATC + access_bits fault.len Super false) (omega arith)) refl
 
 -- ---- lines
@@ -136,7 +112,7 @@ tells_check fault =
 tells_line : (fault : Fault) (a b c d page : ℕ)
     → left_in (line_fields fault (a ∷ b ∷ c ∷ d ∷ []) page) ≡ left.Line fault.at (a ∷ b ∷ c ∷ d ∷ [])
 tells_line fault a b c d page =
-    let few = few_status fault fault.at page in
+    let few = status-le fault fault.at page in
     let v = valid_16 fault.space in
     rw (no_cm (status fault fault.at page) (omega arith)) (rw v.valid (rw v.length refl))
 
@@ -215,7 +191,7 @@ tells_writes fault first page p ps few own =
     let a = write_fields fault first (p ∷ ps) page in
     let s = write_status fault first page (p ∷ ps) few in
     let v = valid_piece fault.space p own.0 in
-    let low = few_status fault first page in
+    let low = status-le fault first page in
     writes_by a (ap (λ (n : ℕ). n / 2 ^ 12 % 2 == 1) s.0 ∙ no_cm (status fault first page) (omega arith))
     (ap is_valid (one_valid fault first page p ps) ∙ v.valid)
     (ap (λ (n : ℕ). length_in n == 16) (one_valid fault first page p ps) ∙ ap (λ (n : ℕ). n == 16) v.length ∙ no_line p own.0)
@@ -223,7 +199,7 @@ tells_writes fault first page p ps few own =
 
 tells_unbegun : (fault : Fault) (first page : ℕ) → left_in (write_fields fault first [] page) ≡ left.Again
 tells_unbegun fault first page =
-    let low = few_status fault first page in
+    let low = status-le fault first page in
     no_writeback (write_fields fault first [] page) (no_cm (status fault first page) (omega arith)) refl
 
 tells_lines : (fault : Fault) (longs : List ℕ) (page : ℕ) → length longs ≡ 4 → left_in (line_fields fault longs page) ≡ left.Line fault.at longs

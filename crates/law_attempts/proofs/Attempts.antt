@@ -35,7 +35,7 @@ attempts_find_none bus space p s t unfound h = ap (carrying bus space p) h
 
 -- ---- a step
 
-chosen : {S A : Type 0} (bus : Bus S) (b : Bool) (m n : Routine A) (s : S) → b ≡ false → run bus (choose b m n) s ≡ run bus n s
+pub chosen : {S A : Type 0} (bus : Bus S) (b : Bool) (m n : Routine A) (s : S) → b ≡ false → run bus (choose b m n) s ≡ run bus n s
 chosen bus b m n s h = rw h refl
 
 not_above : (level mask : ℕ) → level ≤ mask → nat_lt mask level ≡ false

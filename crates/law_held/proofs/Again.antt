@@ -27,8 +27,9 @@ use Rattle.def_guests.specs.Held.{plain_bus, or_refused, held_bus}
 use Rattle.law_held.specs.Lawful.{IsAttemptCall}
 use Rattle.law_held.specs.Sound.{Sound, HeldGuards}
 use Rattle.law_held.proofs.Allowed.{wrote_guest, writable_is, held_is, held_not, of_guest, word_small}
-use Rattle.law_held.proofs.Stages.{piece_fits, word_fits, line_fits, reads_found, checked_is, line_read}
+use Rattle.law_held.proofs.Stages.{piece_fits, word_fits, line_fits, line_read}
 use Rattle.law_held.proofs.Holding.{Led, led, led_room, held_read, held_leaves, wrote_sound, write_held, stored_writes, held_sound, holds}
+use Rattle.def_machine.proofs.Enters.{checked_is, reads_found}
 
 -- ---- refusals
 

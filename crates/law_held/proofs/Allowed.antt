@@ -1,8 +1,5 @@
 -- An access that the shadow allows.
-use Rattle.std.proofs.Common.{◌≡◌, ℕ, ◌<◌, ◌^◌, Bool, true, false, List, length, refl, ap, ◌∙◌, arith, Option, Some, inl, inr, Result, Err, drop}
-use Rattle.std.proofs.Common.{get_or}
-use Rattle.std.proofs.lemmas.Bool.{cases_lt}
-use Rattle.std.proofs.lemmas.List.{get_or_past}
+use Rattle.std.proofs.Common.{◌≡◌, ℕ, ◌<◌, ◌^◌, Bool, true, false, List, refl, ap, ◌∙◌, arith, Option, Some, Result, Err, drop}
 use Rattle.std.proofs.lemmas.List.Elements.{All-drop}
 use Rattle.mb_port.specs.declared.types.Space.{Space}
 use Rattle.mb_model.specs.Keeping.{rule_k}
@@ -18,6 +15,7 @@ use Rattle.def_machine.specs.Bus.{fault_of}
 use Rattle.def_guests.specs.Guests.{Guest, Truthful, ref, lets, placed_at}
 use Rattle.law_held.proofs.Stages.{translated_by}
 use Rattle.def_guests.specs.Held.{or_refused}
+use Rattle.mb_walk.proofs.LongLemmas.{byte_inside}
 
 -- an entry that allows a write is writable
 pub writable_is : (frame : ℕ) (writable : Bool) → lets (Some (frame, writable)) true ≡ true → writable ≡ true
@@ -51,15 +49,9 @@ pub held_not : {A : Type 0} (b : Bool) (q : Result A Fault × Guest) (r : Refere
     → or_refused b q r len g ≡ (Err (fault_of r len true), g)
 held_not b q r len g h = ap (λ b. or_refused b q r len g) h
 
-byte_small : (ram : List ℕ) (k : ℕ) → AreBytes ram → get_or ram k 0 < 2 ^ 8
-byte_small ram k bytes = elim (cases_lt k (length ram)) [
-  | inl l ↦ bytes k 0 l
-  | inr g ↦ rw (get_or_past ram k 0 g) (omega arith)
-]
-
 pub word_small : (ram : List ℕ) (at : ℕ) → AreBytes ram → number_at ram at 2 < 2 ^ 16
 word_small ram at bytes =
     let rest = All-drop (λ byte. byte < 2 ^ 8) at ram bytes in
-    let a = byte_small (drop at ram) 0 rest in
-    let b = byte_small (drop at ram) 1 rest in
+    let a = byte_inside (drop at ram) 0 rest in
+    let b = byte_inside (drop at ram) 1 rest in
     omega arith

@@ -24,7 +24,8 @@ use Rattle.law_held.specs.Lawful.{IsAttemptCall}
 use Rattle.def_guests.specs.Held.{or_refused, held_bus}
 use Rattle.law_held.specs.Sound.{Sound}
 use Rattle.law_held.proofs.Allowed.{guest_access, wrote_guest, of_guest, line_guest, held_is, held_not}
-use Rattle.law_held.proofs.Stages.{piece_fits, word_fits, line_fits, reads_found, writes_found, checked_is, line_read, line_written}
+use Rattle.law_held.proofs.Stages.{piece_fits, word_fits, line_fits, writes_found, line_read, line_written}
+use Rattle.def_machine.proofs.Enters.{checked_is, reads_found}
 
 -- ---- an allowed access
 

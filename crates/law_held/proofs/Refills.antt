@@ -464,7 +464,7 @@ refill_is g h r e = elim (cases_Bool (can_refill g r)) [
   | inr cannot ↦ absurd (let z : None ≡ Some h = sym (ap (λ (b : Bool). cond b (Some (after_access r g)) None) cannot) ∙ e in let y : ⊥ = cc in y)
 ]
 
-some_read : (g h : Guest) (o : Option Reference) → refilled_at g o ≡ Some h → (r : Reference) × (o ≡ Some r)
+pub some_read : (g h : Guest) (o : Option Reference) → refilled_at g o ≡ Some h → (r : Reference) × (o ≡ Some r)
 some_read g h None e = absurd (let z : None ≡ Some h = e in let y : ⊥ = cc in y)
 some_read g h (Some r) e = (r, refl)
 

@@ -1,5 +1,5 @@
 -- What the stages of an access come to, by any rule.
-use Rattle.std.proofs.Common.{◌≡◌, ℕ, ◌+◌, ◌*◌, ◌<◌, ◌%◌, Bool, true, false, refl, ap, ◌∙◌, arith, inl, inr, Option, Some, None, ◌≢◌, ◌≤◌, ◌/◌, cond, List}
+use Rattle.std.proofs.Common.{◌≡◌, ℕ, ◌+◌, ◌*◌, ◌<◌, ◌%◌, true, false, refl, ap, ◌∙◌, arith, inl, inr, Option, Some, None, ◌≢◌, ◌≤◌, ◌/◌, List}
 use Rattle.std.proofs.Common.{length, take, Ok, Err}
 use Rattle.std.proofs.lemmas.Bool.{cases_lt}
 use Rattle.mb_port.specs.declared.types.Mmu.{Mmu}
@@ -13,10 +13,8 @@ use Rattle.mb_model.specs.Pages.{page_of}
 use Rattle.def_machine.specs.Access.{untranslated, marks, through, known, by_entry, by_match, settled, by_settled, translated}
 use Rattle.mb_port.specs.Pieces.{IsPiece}
 use Rattle.mb_port.specs.declared.types.Piece.{Piece}
-use Rattle.mb_port.specs.declared.types.Place.{Place}
-use Rattle.def_machine.specs.Places.{in_ram, checked, line_at, with_longs, taken_line, stored_line}
-use Rattle.def_machine.specs.Bus.{fault_of, place_at, faulting, Take, Store, read_at, read_by, wrote, written_at, written_by}
-use Rattle.def_machine.proofs.BusLemmas.{takes_memory}
+use Rattle.def_machine.specs.Places.{in_ram, line_at, with_longs, taken_line, stored_line}
+use Rattle.def_machine.specs.Bus.{fault_of, place_at, Take, Store, read_at, read_by, wrote, written_at, written_by}
 
 pub settled_by : (rule : Rule) (mmu : Mmu) (kept : KeptLists) (r : Reference) (o : Option Kept) → untranslated mmu r ≡ None
     → entry_for rule r.code r.space (page_of r.at) kept ≡ o → settled rule mmu kept r ≡ by_entry r o
@@ -38,11 +36,6 @@ translated_by rule w r s e = ap (by_settled rule w r) e
 
 pub no_entry : (r : Reference) → by_entry r None ≡ Unsettled
 no_entry r = refl
-
-pub reads_found : {A : Type 0} (rule : Rule) (r : Reference) (len : ℕ) (take : Take A) (w u : World) (p : ℕ) (a : A)
-    → translated rule r w ≡ (Some p, u) → take (place_at p len) u ≡ (Some a, u) → read_by rule r len take w ≡ (Ok a, u)
-reads_found {A} rule r len take w u p a e h =
-    ap (λ (t : Option ℕ × World). read_at r len take t.0 t.1) e ∙ ap (λ (q : Option A × World). faulting q (fault_of r len false)) h
 
 pub reads_refused : {A : Type 0} (rule : Rule) (r : Reference) (len : ℕ) (take : Take A) (w u : World)
     → translated rule r w ≡ (None, u) → read_by rule r len take w ≡ (Err (fault_of r len true), u)
@@ -66,10 +59,6 @@ line_read w p h = rw h refl
 pub line_written : (w : World) (p : ℕ) (line : List ℕ) → in_ram (length w.ram) p 16 ≡ true
     → stored_line (place_at p 16) line w ≡ Some (record w { ram = with_longs w.ram p (take 4 line) })
 line_written w p line h = rw h refl
-
-pub checked_is : (w : World) (p len : ℕ) → in_ram (length w.ram) p len ≡ true → checked (place_at p len) w ≡ (Some (place_at p len), w)
-checked_is w p len h =
-    ap (λ (b : Bool). (let q : Option Place × World = (cond b (Some (place_at p len)) None, w) in q)) (takes_memory w (place_at p len) h)
 
 fits_by : (at len : ℕ) → 0 < len → len ≤ 4 → len ≢ 3 → (2 ≤ len → at % 2 ≡ 0) → (4 ≤ len → at % 4 ≡ 0) → at % 4096 + len ≤ 4096
 fits_by at len a b c d e = elim (cases_lt len 2) [

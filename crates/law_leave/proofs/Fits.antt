@@ -1,8 +1,7 @@
 -- What routines over the held bus answer: parts of instructions, whatever the guest.
-use Rattle.std.proofs.Common.{◌≡◌, ℕ, ◌+◌, ◌^◌, ◌<◌, Bool, true, false, List, [], ◌∷◌, arith, refl, ap, sym, subst, ◌∙◌, length, drop}
-use Rattle.std.proofs.Common.{Option, Some, None, Result, Ok, Err, get_or, inl, inr}
-use Rattle.std.proofs.lemmas.Bool.{cases_lt, cases_Bool}
-use Rattle.std.proofs.lemmas.List.{get_or_past}
+use Rattle.std.proofs.Common.{◌≡◌, ℕ, ◌+◌, ◌^◌, ◌<◌, Bool, true, false, List, [], ◌∷◌, arith, refl, ap, sym, subst, ◌∙◌, drop}
+use Rattle.std.proofs.Common.{Option, Some, None, Result, Ok, Err, inl, inr}
+use Rattle.std.proofs.lemmas.Bool.{cases_Bool}
 use Rattle.std.proofs.lemmas.List.Elements.{All-drop, All-nil, All-cons}
 use Rattle.mb_port.specs.Routine.{Routine, Return, ◌>>=◌, run, choose, tried, other_fault, failing, sure}
 use Rattle.mb_port.specs.Routine.{Write, ReadLine, WriteLine, read, write, read_line, write_line, probe, fetch}
@@ -22,9 +21,11 @@ use Rattle.def_guests.specs.Guests.{Guest, allows, placed_at}
 use Rattle.def_guests.specs.Held.{plain_bus, or_refused, held_bus}
 use Rattle.law_held.specs.Sound.{Sound}
 use Rattle.law_held.proofs.Allowed.{of_guest, held_is, held_not}
-use Rattle.law_held.proofs.Stages.{line_fits, reads_found, line_read}
+use Rattle.law_held.proofs.Stages.{line_fits, line_read}
 use Rattle.law_held.proofs.Holding.{Led, led, led_room, held_read, holds}
 use Rattle.law_leave.specs.Fits.{IsLong}
+use Rattle.mb_walk.proofs.LongLemmas.{byte_inside}
+use Rattle.def_machine.proofs.Enters.{reads_found}
 
 -- ---- answers
 
@@ -148,19 +149,13 @@ line_writing_fits space at line h = record {
 
 -- ---- a line of a sound guest
 
-byte_small : (ram : List ℕ) (k : ℕ) → AreBytes ram → get_or ram k 0 < 2 ^ 8
-byte_small ram k bytes = elim (cases_lt k (length ram)) [
-  | inl l ↦ bytes k 0 l
-  | inr g ↦ rw (get_or_past ram k 0 g) (omega arith)
-]
-
 long_small : (ram : List ℕ) (at : ℕ) → AreBytes ram → IsLong (number_at ram at 4)
 long_small ram at bytes =
     let rest = All-drop (λ byte. byte < 2 ^ 8) at ram bytes in
-    let a = byte_small (drop at ram) 0 rest in
-    let b = byte_small (drop at ram) 1 rest in
-    let c = byte_small (drop at ram) 2 rest in
-    let d = byte_small (drop at ram) 3 rest in
+    let a = byte_inside (drop at ram) 0 rest in
+    let b = byte_inside (drop at ram) 1 rest in
+    let c = byte_inside (drop at ram) 2 rest in
+    let d = byte_inside (drop at ram) 3 rest in
     omega arith
 
 line_longs : (ram : List ℕ) (at : ℕ) → AreBytes ram → AreLongs (line_at ram at)

@@ -37,6 +37,7 @@ use Rattle.law_mirror.proofs.Attempts.{attempts_stay, fetches_stay}
 use Rattle.law_leave.specs.Exits.{IsEnd}
 use Rattle.law_leave.specs.Steps.{Mirrored, StepsRetire, StepsLeave}
 use Rattle.law_leave.proofs.Exits.{board_leaves}
+use Rattle.def_guests.proofs.Exits.{attempted_in_user_mode, found_instr}
 
 -- ---- ends
 
@@ -72,7 +73,7 @@ same_is_end x (ended.WriteFault f) e same h = tt
 same_is_end x (ended.LineFault f line) e same h = tt
 same_is_end x (ended.Movem f) e same h = tt
 
-never_due : (cpu : Cpu) (flow : Bool) → IsUntraced cpu → is_due cpu.regs.sr flow ≡ false
+pub never_due : (cpu : Cpu) (flow : Bool) → IsUntraced cpu → is_due cpu.regs.sr flow ≡ false
 never_due cpu flow h = rw h.all (rw h.flow refl)
 
 done_finish : {S : Type 0} (bus : Bus S) (i : Instr) (f : Bool) (before after : Cpu) (t : S) → IsUntraced before
@@ -81,25 +82,13 @@ done_finish bus i f before after t h = rw (never_due before f h) refl
 
 -- ---- the instruction
 
--- the instruction that was found; where none was, any other
-abbrev pub instr_in : FoundInstr → Instr
-instr_in (Ok found) = found.0
-instr_in (Err unfound) = instr.Flow flow.Nop
-
-pub in_it : (found : FoundInstr) → NoOther (instr_in found) found
+pub in_it : (found : FoundInstr) → NoOther (found_instr found) found
 in_it (Ok found) = refl
 in_it (Err unfound) = tt
 
--- in user mode each instruction is attempted
-all_attempted : (i : Instr) (cpu : Cpu) → is_supervisor cpu.regs.sr ≡ false → is_attempted i cpu ≡ true
-all_attempted (instr.Move i) cpu h = refl
-all_attempted (instr.Arith i) cpu h = refl
-all_attempted (instr.Flow i) cpu h = refl
-all_attempted (instr.System i) cpu h = ap not h
-
 -- else a privileged one ends its attempt so
 found_attempted : {S : Type 0} (bus : Bus S) (cpu : Cpu) (r : FoundInstr × S) → let p = plain_of cpu.regs in
-    (is_attempted (instr_in r.0) cpu ≡ true)
+    (is_attempted (found_instr r.0) cpu ≡ true)
     ⊎ ((closed (run bus (either r.0 (λ unfound. Return (found_none unfound p)) (λ found. perform_of found.0 p.pc (space_of cpu) (past found.1 p)))
     r.1).0).0
     ≡ privileged)
@@ -110,7 +99,7 @@ found_attempted bus cpu (Ok (instr.System i, n), t) = inr refl
 found_attempted bus cpu (Err unfound, t) = inl refl
 
 pub attempted_or : {S : Type 0} (bus : Bus S) (cpu : Cpu) (s : S)
-    → (is_attempted (instr_in (fetched_by bus cpu s).0) cpu ≡ true) ⊎ ((closed (attempted_by bus cpu s).0).0 ≡ privileged)
+    → (is_attempted (found_instr (fetched_by bus cpu s).0) cpu ≡ true) ⊎ ((closed (attempted_by bus cpu s).0).0 ≡ privileged)
 attempted_or bus cpu s = found_attempted bus cpu (run bus (fetched_of (space_of cpu) cpu.regs.pc) s)
 
 -- the same one was found on both
@@ -162,7 +151,7 @@ module _ (x : Site) (board guest : Cpu) (b : World) (g : Guest) (m : Mirrored x 
   native : (level : ℕ) (i : Instr) → rank level ≤ interrupt_mask board → NoOther i (fetched_by held_bus guest g).0
       → run board_bus (step_of level board) b ≡ finished_by board_bus i board there
   native level i masked h =
-      attempt_then_finish board_bus level board b i masked m.board_untraced.going (no_other_there i h) (all_attempted i board m.user)
+      attempt_then_finish board_bus level board b i masked m.board_untraced.going (no_other_there i h) (attempted_in_user_mode i board m.user)
       ∙ ap (λ (q : Performed × World). finished_by board_bus i board q) attempts_there
 
   -- with the registers of the held guest
@@ -186,7 +175,7 @@ module _ (x : Site) (board guest : Cpu) (b : World) (g : Guest) (m : Mirrored x 
       → run guest_bus (step_of level guest) g ≡ ((finish.Went, with_registers (closed held.0).1 guest), held.1)
   own level f masked done =
       let found = (fetched_by guest_bus guest g).0 in
-      let i = instr_in found in
+      let i = found_instr found in
       let is = own_is_held f done in
       let attempted : is_attempted i guest ≡ true = elim (attempted_or guest_bus guest g) [
         | inl h ↦ h
@@ -201,7 +190,7 @@ module _ (x : Site) (board guest : Cpu) (b : World) (g : Guest) (m : Mirrored x 
       → run board_bus (step_of level board) b ≡ ((finish.Went, with_registers (closed held.0).1 board), there.1)
   retires level f masked done =
       let found = (fetched_by held_bus guest g).0 in
-      let i = instr_in found in
+      let i = found_instr found in
       let same = (same_closed x (there.0) (held.0) mirrored.0).0 in
       let is : (closed there.0).0 ≡ ended.Done f = same_done x (closed there.0).0 f (subst (λ (e : Ended). SameEnd (setting x) (closed there.0).0 e) done same)
       in

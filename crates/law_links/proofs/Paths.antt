@@ -110,3 +110,21 @@ path-walk end f from (x ∷ xs) (suc n) low few p =
     let l : x < end = low x (omega (arith, one x x refl)) in
     let b : nat_lt x end ≡ true = grind (arith, nat_tests) in
     rw (p.0, b) (ap (λ (ys : List ℕ). x ∷ ys) (path-walk end f x xs n (λ k h. low k (omega (arith, h))) (omega (arith, few)) p.1))
+
+first_step : (f : ℕ → ℕ) (from : ℕ) (xs : List ℕ) (to at : ℕ) → from ≡ at → IsPath f from xs to → 0 < times (f at) (to ∷ xs)
+first_step f from [] to at e p = omega (arith, one to (f at) (sym p ∙ ap f e))
+first_step f from (x ∷ xs) to at e p = omega (arith, one x (f at) (sym p.0 ∙ ap f e))
+
+later_step : (f : ℕ → ℕ) (from : ℕ) (xs : List ℕ) (to at : ℕ) → 0 < times at xs → IsPath f from xs to → 0 < times (f at) (to ∷ xs)
+later_step f from [] to at h p = absurd (omega (arith, h))
+later_step f from (x ∷ xs) to at h p = elim (cases_eq x at) [
+  | inl e ↦ omega (arith, first_step f x xs to at e p.1)
+  | inr d ↦ omega (arith, later_step f x xs to at (omega (arith, h, none x at d)) p.1)
+]
+
+-- where a path leads from one of its places
+pub newer_in : (f : ℕ → ℕ) (from : ℕ) (xs : List ℕ) (to at : ℕ) → 0 < times at (from ∷ xs) → IsPath f from xs to → 0 < times (f at) (to ∷ xs)
+newer_in f from xs to at h p = elim (cases_eq from at) [
+  | inl e ↦ first_step f from xs to at e p
+  | inr d ↦ later_step f from xs to at (omega (arith, h, none from at d)) p
+]

@@ -23,8 +23,9 @@ use Rattle.def_guests.specs.Guests.{Guest, ref, allows}
 use Rattle.def_guests.specs.Held.{or_refused}
 use Rattle.law_mirror.specs.Related.{Site, setting, Related}
 use Rattle.law_mirror.specs.Laws.{MirrorsCalls}
-use Rattle.law_held.proofs.Stages.{piece_fits, word_fits, line_fits, in_guest, reads_found, reads_refused, writes_found, writes_refused, paired, line_read}
-use Rattle.law_held.proofs.Stages.{line_written, checked_is}
+use Rattle.law_held.proofs.Stages.{piece_fits, word_fits, line_fits, in_guest, reads_refused, writes_found, writes_refused, paired, line_read}
+use Rattle.law_held.proofs.Stages.{line_written}
+use Rattle.def_machine.proofs.Enters.{checked_is, reads_found}
 
 -- ---- a piece and a line lie in one page
 

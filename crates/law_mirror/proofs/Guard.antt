@@ -25,8 +25,9 @@ use Rattle.law_mirror.specs.Related.{Site, setting, Related, Serves}
 use Rattle.law_mirror.specs.Laws.{board_bus, lawful, always, IsAlike}
 use Rattle.law_mirror.proofs.Mirrors.{Allowed, allowed_access, refused_access, board_in_ram}
 use Rattle.law_mirror.proofs.Calls.{mirrors_calls}
-use Rattle.law_held.proofs.Stages.{piece_fits, word_fits, line_fits, in_guest, reads_found, reads_refused, checked_is, line_read, paired}
+use Rattle.law_held.proofs.Stages.{piece_fits, word_fits, line_fits, in_guest, reads_refused, line_read, paired}
 use Rattle.law_held.proofs.Allowed.{word_small}
+use Rattle.def_machine.proofs.Enters.{checked_is, reads_found}
 
 pub is_alike : IsAlike
 is_alike x = record {

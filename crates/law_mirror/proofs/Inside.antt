@@ -23,9 +23,10 @@ use Rattle.law_mirror.specs.Related.{Site, setting, Related}
 use Rattle.law_mirror.proofs.Quiet.{Quiet}
 use Rattle.law_mirror.specs.Laws.{board_bus, lawful, Outside, StaysInside}
 use Rattle.law_mirror.proofs.Mirrors.{Allowed, access, allowed_access, refused_access, board_in_ram, room}
-use Rattle.law_held.proofs.Stages.{piece_fits, word_fits, line_fits, in_guest, reads_found, reads_refused, writes_found, writes_refused, line_written, paired}
+use Rattle.law_held.proofs.Stages.{piece_fits, word_fits, line_fits, in_guest, reads_refused, writes_found, writes_refused, line_written, paired}
 use Rattle.law_mirror.proofs.Calls.{TakesBoth, take_both, line_both, check_both, store_both, line_board, place_lower}
 use Rattle.law_mirror.proofs.Guard.{of_guest_call}
+use Rattle.def_machine.proofs.Enters.{reads_found}
 
 outside_same : (x : Site) (b : World) → Outside x b b
 outside_same x b = record { count = refl; below = refl; above = refl; mmu = refl; devices = refl }

@@ -1,59 +1,15 @@
 -- A register that is set among all sixteen is read back.
-use Rattle.std.proofs.Common.{◌≡◌, ◌∙◌, ◌<◌, ℕ, ◌+◌, ◌-◌, ◌/◌, ◌%◌, ◌^◌, ◌==◌, Bool, true, false, cond, List, [], ◌∷◌, ◌++◌}
+use Rattle.std.proofs.Common.{◌≡◌, ◌∙◌, ◌<◌, ℕ, ◌+◌, ◌-◌, Bool, true, false, cond, List, [], ◌∷◌, ◌++◌}
 use Rattle.std.proofs.Common.{take, length, length-append, nat_lt, arith, refl, ap, subst, sym}
 use Rattle.std.proofs.lemmas.List.{get_or-set_same, length-set}
 use Rattle.std.proofs.lemmas.Bool.Decides.{nat_tests}
-use Rattle.std.specs.Prelude.{slice_index}
 use Rattle.mb_instr.specs.declared.registers.Plain.{Plain}
 use Rattle.mb_instr.specs.declared.registers.Regs.{Regs}
-use Rattle.mb_instr.specs.Registers.{is_supervisor, is_master, active_stack, plain_of, with_plain, with_stack, with_ccr}
+use Rattle.mb_instr.specs.Registers.{active_stack, plain_of, with_plain}
 use Rattle.mb_instr.specs.Registers.{data_register, with_data_register, address_register, with_address_register}
 use Rattle.mb_instr.specs.Registers.{register_of, with_register}
+use Rattle.mb_instr.proofs.PlainRegisters.{plain_found}
 use Rattle.law_settings.specs.Control.{HasRegisters}
-
--- ---- registers that were put in
-
-high13 : (sr ccr : ℕ) → with_ccr sr ccr / 2 ^ 13 ≡ sr / 2 ^ 13
-high13 sr ccr = omega arith
-
-high12 : (sr ccr : ℕ) → with_ccr sr ccr / 2 ^ 12 ≡ sr / 2 ^ 12
-high12 sr ccr = omega arith
-
-low : (sr ccr : ℕ) → ccr < 32 → with_ccr sr ccr % 2 ^ 5 ≡ ccr
-low sr ccr less = omega arith
-
-same_supervisor : (sr ccr : ℕ) → is_supervisor (with_ccr sr ccr) ≡ is_supervisor sr
-same_supervisor sr ccr = ap (λ (n : ℕ). n % 2 == 1) (high13 sr ccr)
-
-same_master : (sr ccr : ℕ) → is_master (with_ccr sr ccr) ≡ is_master sr
-same_master sr ccr = ap (λ (n : ℕ). n % 2 == 1) (high12 sr ccr)
-
-eight : (xs : List ℕ) → length xs ≡ 8 → take 7 xs ++ slice_index xs 7 ∷ [] ≡ xs
-eight (a ∷ b ∷ c ∷ d ∷ e ∷ f ∷ g ∷ h ∷ []) n = refl
-eight _ n = absurd (omega arith)
-
--- the active stack pointer that was set
-stack_by : (s m : Bool) (r : Regs) (top : ℕ) → let q = cond s (cond m (record r { msp = top }) (record r { isp = top })) (record r { usp = top }) in
-    cond s (cond m q.msp q.isp) q.usp ≡ top
-stack_by true true r top = refl
-stack_by true false r top = refl
-stack_by false m r top = refl
-
-stack_again : (r : Regs) (p : Plain) → active_stack (with_plain r p) ≡ slice_index p.a 7
-stack_again r p =
-    let q = with_stack r (slice_index p.a 7) in
-    ap (λ (s : Bool). cond s (cond (is_master (with_ccr r.sr p.ccr)) q.msp q.isp) q.usp) (same_supervisor r.sr p.ccr)
-    ∙ ap (λ (m : Bool). cond (is_supervisor r.sr) (cond m q.msp q.isp) q.usp) (same_master r.sr p.ccr)
-    ∙ stack_by (is_supervisor r.sr) (is_master r.sr) r (slice_index p.a 7)
-
-abbrev of_parts : List ℕ → List ℕ → ℕ → ℕ → Plain
-of_parts d a pc ccr = record { d = d; a = a; pc = pc; ccr = ccr }
-
-pub plain_again : (r : Regs) (p : Plain) → length p.a ≡ 8 → p.ccr < 32 → plain_of (with_plain r p) ≡ p
-plain_again r p n less =
-    ap (λ (top : ℕ). of_parts p.d (take 7 p.a ++ top ∷ []) p.pc (with_ccr r.sr p.ccr % 2 ^ 5)) (stack_again r p)
-    ∙ ap (λ (a : List ℕ). of_parts p.d a p.pc (with_ccr r.sr p.ccr % 2 ^ 5)) (eight p.a n)
-    ∙ ap (λ (ccr : ℕ). of_parts p.d p.a p.pc ccr) (low r.sr p.ccr less)
 
 -- ---- one of sixteen
 
@@ -96,7 +52,7 @@ register_again r m v has small =
     let p = plain_of r in
     let b = nat_lt m 8 in
     ap (λ (q : Plain). register_of q m)
-    (plain_again r (with_by b p m v) (length_by b p m v (eight_addresses r has)) (codes_by b p m v (five_codes r)))
+    (plain_found r (with_by b p m v) (length_by b p m v (eight_addresses r has)) (codes_by b p m v (five_codes r)))
     ∙ again_by b p m v (eight_data r has) (eight_addresses r has) small refl
 
 -- address register m
@@ -105,7 +61,7 @@ pub address_again : (r : Regs) (m v : ℕ) → HasRegisters r → m < 8
 address_again r m v has small =
     let p = plain_of r in
     ap (λ (q : Plain). address_register q m)
-    (plain_again r (with_address_register p m v) (length-set p.a m v ∙ eight_addresses r has) (five_codes r))
+    (plain_found r (with_address_register p m v) (length-set p.a m v ∙ eight_addresses r has) (five_codes r))
     ∙ get_or-set_same p.a m v 0 (subst (λ (n : ℕ). m < n) (sym (eight_addresses r has)) small)
 
 seven : (xs : List ℕ) (x : ℕ) → length xs ≡ 7 → length (take 7 (xs ++ x ∷ [])) ≡ 7

@@ -15,21 +15,18 @@ use Rattle.def_machine.specs.declared.reference.Reference.{Reference}
 use Rattle.def_machine.specs.declared.reference.Settled.TheVariants.{To, Refused}
 use Rattle.def_machine.specs.World.{World}
 use Rattle.def_machine.specs.Places.{taken, stored, checked, taken_line, stored_line}
-use Rattle.def_machine.specs.Access.{matched, search_for, by_match, untranslated, searched, translated, by_settled, by_found}
+use Rattle.def_machine.specs.Access.{search_for, by_match, untranslated, searched, translated, by_settled, by_found}
 use Rattle.def_machine.specs.Access.{marks, through}
-use Rattle.def_machine.specs.Bus.{bus_of, reading_of, writing_of, fetching_of, read_at, read_by, written_at, written_by, tested, tested_by, after_set_mmu}
+use Rattle.def_machine.specs.Bus.{bus_of, reading_of, writing_of, fetching_of, read_at, read_by, written_at, written_by, tested_by, after_set_mmu}
 use Rattle.def_runs.specs.Free.{IsKept, StandIn, rule_free, with_class_entry, WorldWithin}
 use Rattle.def_runs.proofs.Blind.{IsBlind, IsBlindStore, taken-blind, taken_line-blind, checked-blind, stored-blind, stored_line-blind}
-use Rattle.def_runs.proofs.Blind.{read-blind, write-blind, get-blind, put-blind, blind-kept}
+use Rattle.def_runs.proofs.Blind.{read-blind, write-blind, get-blind, put-blind}
 use Rattle.def_runs.proofs.Accesses.{accesses-use_or_search}
 use Rattle.def_runs.proofs.KeptLemmas.{empty, head_or_tail, kept-behind, flushed-follows, dropped-follows, filled-is, filled-first, filled-behind}
 use Rattle.def_runs.specs.Tidy.{searching_bus}
 use Rattle.law_tidy.specs.Least.{LeadsThere, OneWayReference, IsOneWayCall, OneWayCallsHaveNoChoice}
-
--- the same answer, the second in a world that keeps more
-pub record Met {A : Type 0} (x y : A × World) : Type 0 where
-  pub answer : y.0 ≡ x.0
-  pub world : WorldWithin x.1 y.1
+use Rattle.def_runs.proofs.Calls.{blind_met, then_met, tested_met, Met}
+use Rattle.def_runs.proofs.Past.{by_match_of}
 
 behind : (w : World) (held : KeptLists) → StandIn w.kept held → WorldWithin w (record w { kept = [] ∷ held })
 behind w held stand = record { same = refl; kept = λ k h. kept-behind [] held k (stand k h) }
@@ -108,11 +105,6 @@ abbrev TranslationMeets : Reference → World → KeptLists → Option Kept → 
 TranslationMeets r t held entry =
     Met (translated rule_free r (with_class_entry entry t)) (translated rule_free r (record t { kept = [] ∷ held }))
 
-pub by_match_of : (r : Reference) (w : World) (o : Option Bool) → untranslated w.mmu r ≡ o
-    → translated rule_free r w ≡ by_settled rule_free w r (by_match rule_free w.kept r o)
-unfolding translated
-by_match_of r w o e = ap (λ (o : Option Bool). by_settled rule_free w r (by_match rule_free w.kept r o)) e
-
 protected_met : (b : Bool) (r : Reference) (w : World) (held : KeptLists) → StandIn w.kept held
     → Met (by_settled rule_free w r (if b then Refused else To r.at))
     (by_settled rule_free (record w { kept = [] ∷ held }) r (if b then Refused else To r.at))
@@ -170,20 +162,6 @@ translated_met r t held entry is stand tidy = translated_by r t held entry (untr
 
 -- ---- what follows it
 
-blind_met : {A : Type 0} (f : World → A × World) → IsBlind f → (w v : World) → WorldWithin w v → Met (f w) (f v)
-blind_met {A} f blind w v h =
-    let e : f v ≡ ((f w).0, record (f w).1 { kept = v.kept }) = ap f h.same ∙ blind w v.kept in
-    let own = blind-kept f blind w in
-    subst (λ (y : A × World). Met (f w) y) (sym e) (record {
-      answer = refl;
-      world = record { same = refl; kept = λ k g. h.kept k (subst (λ (kept : KeptLists). IsKept k kept) own g) };
-    })
-
-then_met : {A : Type 0} (g : Option ℕ → World → A × World) → ((o : Option ℕ) → IsBlind (g o)) → (x y : Option ℕ × World) → Met x y
-    → Met (g x.0 x.1) (g y.0 y.1)
-then_met g blind x y m =
-    subst (λ (o : Option ℕ). Met (g x.0 x.1) (g o y.1)) (sym m.answer) (blind_met (g x.0) (blind x.0) x.1 y.1 m.world)
-
 -- ---- the calls
 
 read_met : {A : Type 0} (r : Reference) (len : ℕ) (take : Place → World → Option A × World) (t : World) (held : KeptLists) (entry : Option Kept)
@@ -210,10 +188,6 @@ tested_by_met w held space page write None stand = record {
     kept = dropped-follows (has_big_pages w.mmu) space page w.kept ([] ∷ held) (λ k h. kept-behind [] held k (stand k h));
   };
 }
-
-tested_met : (w : World) (held : KeptLists) (space : Space) (page : ℕ) (write : Bool) → StandIn w.kept held
-    → Met (tested space page write w) (tested space page write (record w { kept = [] ∷ held }))
-tested_met w held space page write stand = tested_by_met w held space page write (matched false w.mmu space page) stand
 
 set_met : (which : MmuReg) (value : ℕ) (w : World) (held : KeptLists) → StandIn w.kept held
     → WorldWithin (after_set_mmu rule_free which value w) (after_set_mmu rule_free which value (record w { kept = [] ∷ held }))

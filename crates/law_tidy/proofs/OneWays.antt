@@ -22,7 +22,8 @@ use Rattle.def_runs.proofs.Accesses.{accesses-use_or_search}
 use Rattle.def_runs.specs.Tidy.{searching_bus, searching_step, Counts, Agrees, IsTidyReference}
 use Rattle.law_tidy.specs.Least.{LeadsThere, OneWayReference, SameByAny, OneWayIsLeast, TidyCallsAreOneWay, TidyRunsAreOneWay}
 use Rattle.law_tidy.specs.Laws.{TidyCallsHaveNoChoice}
-use Rattle.law_tidy.proofs.NoChoices.{by_match_of, one_way_calls-have_no_choice}
+use Rattle.law_tidy.proofs.NoChoices.{one_way_calls-have_no_choice}
+use Rattle.def_runs.proofs.Past.{by_match_of}
 
 -- ---- tidy calls
 

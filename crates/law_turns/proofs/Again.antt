@@ -173,7 +173,7 @@ no_refills class.Privileged t = refl
 no_refills class.Denied t = refl
 no_refills class.Trapped t = refl
 
-class_begins : (script : Entries) (start q : Guested) → guest_begun script start ≡ q
+pub class_begins : (script : Entries) (start q : Guested) → guest_begun script start ≡ q
     → step_class_at_first script start ≡ class_at_first (asked_of script q.machine) q.machine.cpu (bus_side q)
 class_begins script start q e = ap (λ (p : Guested). class_at_first (asked_of script p.machine) p.machine.cpu (bus_side p)) e
 

@@ -80,8 +80,10 @@ use Rattle.law_mirror.proofs.Mirrors.{sound_of}
 use Rattle.law_held.proofs.Attempts.{attempts_go_on}
 use Rattle.law_leave.specs.Fits.{IsLong}
 use Rattle.law_leave.proofs.FitEnds.{ends_fit}
-use Rattle.law_leave.proofs.Steps.{in_it, instr_in, steps_leave}
+use Rattle.law_leave.proofs.Steps.{in_it, steps_leave}
 use Rattle.def_runs.specs.Frames.{pc_of}
+use Rattle.def_guests.proofs.Exits.{found_instr}
+use Rattle.mb_frames.specs.declared.places.TheConstants.{LONGEST}
 
 -- ---- what is handed back
 
@@ -168,7 +170,7 @@ is_end (ended.LineFault f line) never = tt
 is_end (ended.Movem f) never = tt
 
 board_left : (x : Site) (root level own_level : ℕ) (i : Instr) (cpu : Cpu) (w : World) (guest : Cpu) (g : Guest) → Mirrored x cpu guest → Related x w g
-    → w.mmu ≡ native_mmu root → cpu.regs.sr < 2 ^ 16 → is_master cpu.regs.sr ≡ false → cpu.vbr ≡ 0 → 60 ≤ cpu.regs.isp → cpu.regs.isp ≤ x.base
+    → w.mmu ≡ native_mmu root → cpu.regs.sr < 2 ^ 16 → is_master cpu.regs.sr ≡ false → cpu.vbr ≡ 0 → LONGEST ≤ cpu.regs.isp → cpu.regs.isp ≤ x.base
     → 1024 ≤ x.base → length w.ram ≤ 2 ^ 32 → rank level ≤ interrupt_mask cpu → NoOther i (fetched_by held_bus guest g).0
     → (class_of_end (end_of_held x guest g).0 ≡ Retired → ⊥) → BoardLeft x level own_level i cpu w guest g
 board_left x root level own_level i cpu w guest g m related mmu status master vbr low below table small masked other never =
@@ -308,7 +310,7 @@ left_steps x script m g b fur regs seven is_left =
     let k = by_held x.space (plain_of guest.regs) h in
     let goes = (attempts_go_on x.space x.size (plain_of guest.regs) h regs.longs regs.counter sound).0 in
     let found = (fetched_by held_bus guest h).0 in
-    let i = instr_in found in
+    let i = found_instr found in
     let level = asked script (g.machine.steps + 1) (ticked dev) in
     let c = step_class_at_first script g in
     let attempt = is_attempt level guest h c refl (is_tried c is_left) in
@@ -333,7 +335,7 @@ left_steps x script m g b fur regs seven is_left =
     let top : at + length bytes ≡ m.cpu.regs.isp = bl.stack.ends ∙ bl.is.from.isp in
     let room : x.base + x.size ≤ length q.ram = (let h = b.related.under in let z : x.slots.area + AREA_BYTES ≤ length m.world.ram = b.related.maps.inside in
     let e : length q.ram ≡ length m.world.ram = stays.outside.count in omega arith) in
-    let whole : x.base + 60 ≤ length q.ram = (let h = b.related.under in let z : x.slots.area + AREA_BYTES ≤ length m.world.ram = b.related.maps.inside in
+    let whole : x.base + LONGEST ≤ length q.ram = (let h = b.related.under in let z : x.slots.area + AREA_BYTES ≤ length m.world.ram = b.related.maps.inside in
     let e : length q.ram ≡ length m.world.ram = stays.outside.count in omega arith) in
     let begun : BeginsWith (drop l.0.1.regs.isp l.1.ram) f = subst (λ (n : ℕ). BeginsWith (drop n l.1.ram) f) (sym entered.isp)
     (subst (λ (r : List ℕ). BeginsWith r f) (sym (stands_at q.ram bytes at (omega arith)))

@@ -44,7 +44,9 @@ use Rattle.law_turns.specs.Registers.{IsFrom}
 use Rattle.def_guests.specs.Rests.{left_pieces, rest_by, rest_of}
 use Rattle.def_guests.specs.Exits.{is_refusal, class_of_vector, rest_without, rest_by_frame}
 use Rattle.def_runs.proofs.Writebacks.{frames_tell}
-use Rattle.law_turns.proofs.Registers.{plain_again, is_set, registers_tidy, seven_set, tidy}
+use Rattle.mb_instr.proofs.PlainRegisters.{plain_again, tidy}
+use Rattle.law_turns.proofs.Registers.{is_set, registers_tidy, seven_set}
+use Rattle.law_leave.proofs.Steps.{never_due}
 
 is_itself : (cpu : Cpu) → is_supervisor cpu.regs.sr ≡ false → IsFrom cpu cpu
 is_itself cpu user = record { isp = refl; master = refl; vbr = refl; user = user; upper = refl }
@@ -86,9 +88,6 @@ left_by level guest q a l e = ap (λ (o : LeftOver). rest_by o level guest q) e
 
 pub no_trace : (due : Bool) (a : Access) → due ≡ false → with_ct due a ≡ a
 no_trace due a h = rw h refl
-
-pub never_due : (cpu : Cpu) (flow : Bool) → IsUntraced cpu → is_due cpu.regs.sr flow ≡ false
-never_due cpu flow h = rw h.all (rw h.flow refl)
 
 module _ (x : Site) (i : Instr) (level : ℕ) (guest cpu : Cpu) (p : Plain) (plain : IsUntraced cpu) (user : is_supervisor cpu.regs.sr ≡ false)
     (counter : cpu.regs.pc ≡ (plain_of guest.regs).pc) where

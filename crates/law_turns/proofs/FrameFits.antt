@@ -1,11 +1,10 @@
 -- The frame of an exit: each field fits.
-use Rattle.std.proofs.Common.{◌≡◌, ◌⊎◌, ℕ, zero, suc, ◌+◌, ◌-◌, ◌*◌, ◌%◌, ◌^◌, ◌<◌, ◌≤◌, ◌==◌, ◌&&◌, Bool, true, false, cond, not, List, [], ◌∷◌, ◌++◌, length, take, drop}
+use Rattle.std.proofs.Common.{◌≡◌, ◌⊎◌, ℕ, zero, suc, ◌+◌, ◌-◌, ◌*◌, ◌%◌, ◌^◌, ◌<◌, ◌≤◌, ◌&&◌, Bool, true, false, cond, not, List, [], ◌∷◌, ◌++◌, length, take, drop}
 use Rattle.std.proofs.Common.{slice_index, slice_range, arith, refl, ap, sym, ◌∙◌, subst, inl, inr, Some}
 use Rattle.std.specs.List.{AllByRecursion}
 use Rattle.std.proofs.lemmas.List.{get_or_past}
 use Rattle.std.proofs.lemmas.List.Elements.{All-get_or, All-from_recursion}
 use Rattle.mb_port.specs.declared.types.Space.{Space}
-use Rattle.mb_port.specs.declared.types.Space.TheVariants.{User, Super}
 use Rattle.mb_port.specs.declared.types.Fault.{Fault}
 use Rattle.mb_port.specs.Pieces.{IsPiece}
 use Rattle.mb_instr.specs.declared.instruction.Instr.{Instr}
@@ -17,9 +16,9 @@ use Rattle.mb_frames.specs.declared.frame.Frame.TheVariants as frame
 use Rattle.mb_frames.specs.declared.pend.Pend.{Pend}
 use Rattle.mb_frames.specs.Layout.{Fits, fields_of, fields_of_access, frame_bytes, IsFrame, BeginsWith}
 use Rattle.mb_frames.specs.Reading.{frame_in}
-use Rattle.mb_frames.specs.AccessFields.{size_code, transfer_type, transfer_modifier, access_bits, bit_if}
-use Rattle.mb_frames.specs.declared.status_bits.TheConstants.{CM, MA, ATC, LK, RW}
-use Rattle.mb_frames.specs.AccessFields.{is_other_page, status, writeback_status, piece_of, register_aligned, memory_aligned}
+use Rattle.mb_frames.specs.AccessFields.{bit_if}
+use Rattle.mb_frames.specs.declared.status_bits.TheConstants.{CM, LK, RW}
+use Rattle.mb_frames.specs.AccessFields.{status, writeback_status, piece_of, register_aligned, memory_aligned}
 use Rattle.mb_frames.specs.AccessFields.{read_fields, write_fields, line_fields, movem_fields, access_fields}
 use Rattle.mb_frames.proofs.RoundTrip.{frame_in-begins}
 use Rattle.mb_model.specs.declared.processor.Cpu.{Cpu}
@@ -41,7 +40,9 @@ use Rattle.law_mirror.specs.Related.{Site, setting}
 use Rattle.law_leave.specs.Exits.{Exit, writing_exit, exit_of, IsEnd}
 use Rattle.law_leave.specs.Fits.{IsLong, HaveAddresses, EndFits}
 use Rattle.law_turns.proofs.Usual.{IsUsual}
-use Rattle.law_turns.proofs.ExitIs.{no_trace, never_due}
+use Rattle.law_turns.proofs.ExitIs.{no_trace}
+use Rattle.mb_frames.proofs.StatusBits.{access_bits-le, bit_if-le, status-le}
+use Rattle.law_leave.proofs.Steps.{never_due}
 
 -- ---- read back
 
@@ -61,44 +62,8 @@ read_as ram at f n fits begins h =
 
 -- ---- words
 
-bit_small : (b : Bool) (bit : ℕ) → bit_if b bit ≤ bit
-bit_small true bit = omega arith
-bit_small false bit = omega arith
-
-size_small : (len : ℕ) → size_code len ≤ 3
-size_small len = by_tests (len == 1) (len == 2) (len == 16)
-  where
-    by_tests : (a b c : Bool) → cond a 1 (cond b 2 (cond c 3 0)) ≤ 3
-    by_tests true b c = omega arith
-    by_tests false true c = omega arith
-    by_tests false false true = omega arith
-    by_tests false false false = omega arith
-
-type_small : (len : ℕ) → transfer_type len ≤ 1
-type_small len = by_test (len == 16)
-  where
-    by_test : (a : Bool) → cond a 1 0 ≤ 1
-    by_test true = omega arith
-    by_test false = omega arith
-
-modifier_small : (space : Space) (code : Bool) → transfer_modifier space code ≤ 6
-modifier_small User false = omega arith
-modifier_small User true = omega arith
-modifier_small Super false = omega arith
-modifier_small Super true = omega arith
-
-bits_small : (len : ℕ) (space : Space) (code : Bool) → access_bits len space code < 2 ^ 7
-bits_small len space code = let a = size_small len in let b = type_small len in let c = modifier_small space code in omega arith
-
-status_small : (fault : Fault) (start page : ℕ) → status fault start page < 2 ^ 12
-status_small fault start page =
-    let a = bit_small (fault.atc && is_other_page page fault.at start) MA in
-    let b = bit_small fault.atc ATC in
-    let c = bits_small fault.len fault.space fault.code in
-    omega arith
-
 writeback_small : (space : Space) (len : ℕ) → writeback_status space len < 2 ^ 16
-writeback_small space len = let c = bits_small len space false in omega arith
+writeback_small space len = let c = access_bits-le len space false in omega arith
 
 -- ---- pieces
 
@@ -162,7 +127,7 @@ read_fit : (fault : Fault) (first : ℕ) → IsLong fault.at → IsLong first �
 read_fit fault first at begins =
     let ea = cond fault.code fault.at first in
     let status : status fault ea PAGE_SIZE + bit_if fault.write LK + RW < 2 ^ 16 =
-    (let a = status_small fault ea PAGE_SIZE in let b = bit_small fault.write LK in omega arith) in
+    (let a = status-le fault ea PAGE_SIZE in let b = bit_if-le fault.write LK in omega arith) in
     by_fields (read_fields fault first PAGE_SIZE) (by_kind fault.code) status word word word at long long long long long long long long long
   where
     by_kind : (b : Bool) → IsLong (cond b fault.at first)
@@ -172,21 +137,21 @@ read_fit fault first at begins =
 write_fit : (fault : Fault) (first : ℕ) (rest : List Pend) → IsLong fault.at → IsLong first → length rest ≤ 3 → AreOwn rest → HaveAddresses rest
     → AccessFits (write_fields fault first rest PAGE_SIZE)
 write_fit fault first [] at begins few own have =
-    let status : status fault first PAGE_SIZE < 2 ^ 16 = (let a = status_small fault first PAGE_SIZE in omega arith) in
+    let status : status fault first PAGE_SIZE < 2 ^ 16 = (let a = status-le fault first PAGE_SIZE in omega arith) in
     by_fields (write_fields fault first [] PAGE_SIZE) begins status word word word at long long long long long long long long long
 write_fit fault first (p ∷ []) at begins few own have =
-    let status : status fault first PAGE_SIZE < 2 ^ 16 = (let a = status_small fault first PAGE_SIZE in omega arith) in
+    let status : status fault first PAGE_SIZE < 2 ^ 16 = (let a = status-le fault first PAGE_SIZE in omega arith) in
     let one = writeback_small fault.space p.len in
     by_fields (write_fields fault first (p ∷ []) PAGE_SIZE) begins status word word one at long long long long
     have.0 (memory_small p own.0.piece) long long long
 write_fit fault first (p ∷ q ∷ []) at begins few own have =
-    let status : status fault first PAGE_SIZE < 2 ^ 16 = (let a = status_small fault first PAGE_SIZE in omega arith) in
+    let status : status fault first PAGE_SIZE < 2 ^ 16 = (let a = status-le fault first PAGE_SIZE in omega arith) in
     let one = writeback_small fault.space p.len in
     let two = writeback_small fault.space q.len in
     by_fields (write_fields fault first (p ∷ q ∷ []) PAGE_SIZE) begins status word two one at long long have.1.0 (register_small q own.1.0.piece)
     have.0 (memory_small p own.0.piece) long long long
 write_fit fault first (p ∷ q ∷ r ∷ []) at begins few own have =
-    let status : status fault first PAGE_SIZE < 2 ^ 16 = (let a = status_small fault first PAGE_SIZE in omega arith) in
+    let status : status fault first PAGE_SIZE < 2 ^ 16 = (let a = status-le fault first PAGE_SIZE in omega arith) in
     let one = writeback_small fault.space p.len in
     let two = writeback_small fault.space q.len in
     let three = writeback_small fault.space r.len in
@@ -196,7 +161,7 @@ write_fit fault first (p ∷ q ∷ r ∷ o ∷ rest) at begins few own have = ab
 
 line_fit : (fault : Fault) (line : List ℕ) → IsLong fault.at → AreLongs line → AccessFits (line_fields fault line PAGE_SIZE)
 line_fit fault line at longs =
-    let status : status fault fault.at PAGE_SIZE < 2 ^ 16 = (let a = status_small fault fault.at PAGE_SIZE in omega arith) in
+    let status : status fault fault.at PAGE_SIZE < 2 ^ 16 = (let a = status-le fault fault.at PAGE_SIZE in omega arith) in
     by_fields (line_fields fault line PAGE_SIZE) at status word word (writeback_small fault.space 16) at long long long long at (index_long line 0 longs)
     (index_long line 1 longs) (index_long line 2 longs) (index_long line 3 longs)
 
@@ -204,7 +169,7 @@ movem_fit : (fault : Fault) (first start done words next : ℕ) (is_load : Bool)
     → AccessFits (movem_fields fault first start done words next is_load PAGE_SIZE)
 movem_fit fault first start done words next is_load at begins few is goes =
     let status : status fault start PAGE_SIZE + CM + bit_if is_load RW < 2 ^ 16 =
-    (let a = status_small fault start PAGE_SIZE in let b = bit_small is_load RW in omega arith) in
+    (let a = status-le fault start PAGE_SIZE in let b = bit_if-le is_load RW in omega arith) in
     let count : IsLong done = omega arith in
     by_fields (movem_fields fault first start done words next is_load PAGE_SIZE) begins status word word word at long long long long long long goes is count
 

@@ -28,7 +28,8 @@ use Rattle.law_leave.specs.Exits.{Exit, IsEnd, writing_exit, exit_of}
 use Rattle.law_leave.specs.Fits.{EndFits}
 use Rattle.law_turns.specs.Lawful.{IsLawfulLeftOver, LeavesLawful}
 use Rattle.law_turns.proofs.Usual.{IsUsual}
-use Rattle.law_turns.proofs.ExitIs.{no_trace, never_due}
+use Rattle.law_turns.proofs.ExitIs.{no_trace}
+use Rattle.law_leave.proofs.Steps.{never_due}
 
 -- pieces with values within them are pieces
 pieces_pend : (ps : List Pend) → AreOwn ps → ArePending ps

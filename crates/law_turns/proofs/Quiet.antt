@@ -31,7 +31,8 @@ use Rattle.def_runs.specs.Native.{user_step}
 use Rattle.law_turns.specs.Retire.{Retires}
 use Rattle.law_turns.specs.Batch.{IsTried, stepped_by}
 use Rattle.law_turns.specs.Quiet.{QuietStepsAreTried, RetiredStepsTick, RetiredStepsKeepTruth, RetiredStepsLeave}
-use Rattle.law_turns.proofs.Registers.{plain_same, registers_over}
+use Rattle.mb_instr.proofs.PlainRegisters.{plain_same}
+use Rattle.law_turns.proofs.Registers.{registers_over}
 use Rattle.law_turns.proofs.Retire.{retired_steps, is_attempt, not_above}
 use Rattle.def_runs.specs.Batches.{IsQuietAt, NothingArrives}
 use Rattle.def_runs.proofs.Batches.{one_tick}

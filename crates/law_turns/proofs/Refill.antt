@@ -1,7 +1,7 @@
 -- A step that begins again.
-use Rattle.std.proofs.Common.{◌≡◌, ◌∙◌, ℕ, zero, suc, ◌+◌, ◌-◌, ◌≤◌, refl, ap, sym, subst, arith, inl, inr, Some, None, Ok, Err, Bool, true, false, nat_lt}
+use Rattle.std.proofs.Common.{◌≡◌, ◌∙◌, ℕ, zero, suc, ◌+◌, ◌-◌, ◌≤◌, refl, ap, sym, subst, arith, inl, inr, Some, None, Ok, Err, true, false, nat_lt}
 use Rattle.std.specs.Prelude.{unwrap_or}
-use Rattle.mb_port.specs.Routine.{Bus, Routine, Return, run, choose, either}
+use Rattle.mb_port.specs.Routine.{Return, run, choose, either}
 use Rattle.mb_instr.specs.declared.instruction.Instr.{Instr}
 use Rattle.mb_instr.specs.declared.instruction.Instr.TheVariants as instr
 use Rattle.mb_instr.specs.Registers.{plain_of}
@@ -16,7 +16,7 @@ use Rattle.def_processor.specs.Raise.{Stepped, interrupt_of}
 use Rattle.def_processor.specs.declared.Finish.TheVariants as finish
 use Rattle.def_processor.specs.Step.{interrupt_mask, unfound_of, execute_of, execute_next_of, step_of, rank}
 use Rattle.law_attempts.specs.Attempts.{NoOther, is_attempted, fetched_by, finished_by}
-use Rattle.law_attempts.proofs.Attempts.{attempt_then_finish}
+use Rattle.law_attempts.proofs.Attempts.{attempt_then_finish, chosen}
 use Rattle.mb_model.specs.Keeping.{KeptLists}
 use Rattle.def_machine.specs.World.{World}
 use Rattle.def_machine.specs.Machine.{begun, asked_of}
@@ -119,9 +119,6 @@ first_is_last x script m g b regs first =
     (class ∙ first, refills)
 
 -- ---- the guest's own step
-
-chosen : {S A : Type 0} (bus : Bus S) (b : Bool) (m n : Routine A) (s : S) → b ≡ false → run bus (choose b m n) s ≡ run bus n s
-chosen bus b m n s h = rw h refl
 
 -- a step is by its fetch
 step_by_fetch : (level : ℕ) (cpu : Cpu) (g h : Guest) → rank level ≤ interrupt_mask cpu → cpu.stopped ≡ false

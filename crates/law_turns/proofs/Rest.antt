@@ -38,11 +38,13 @@ use Rattle.law_held.specs.Denied.{HasNone, IfRefused, AttemptGoesOn, IsAllowed, 
 use Rattle.law_held.proofs.Rows.{fetches_go_on}
 use Rattle.law_held.proofs.Attempts.{attempts_go_on}
 use Rattle.law_held.proofs.Names.{words_name}
-use Rattle.law_leave.proofs.Steps.{instr_in, attempted_or, same_counter}
+use Rattle.law_leave.proofs.Steps.{attempted_or, same_counter}
 use Rattle.law_turns.specs.Retire.{HasRegisters}
 use Rattle.law_turns.specs.Rest.{StepsGoOn}
 use Rattle.law_turns.proofs.Tidy.{StopsEight, eight_tidy, eight_plain, attempts_eight}
-use Rattle.law_turns.proofs.Registers.{plain_again, registers_over, registers_back, same_space, IsTidy}
+use Rattle.mb_instr.proofs.PlainRegisters.{plain_again}
+use Rattle.law_turns.proofs.Registers.{registers_over, registers_back, same_space, IsTidy}
+use Rattle.def_guests.proofs.Exits.{found_instr}
 
 pub with_counter : (p : Plain) (cpu : Cpu) → (with_registers p cpu).regs.pc ≡ p.pc
 with_counter p cpu = refl
@@ -117,7 +119,7 @@ module _ (size level : ℕ) (guest : Cpu) (g : Guest) (i : Instr) (plain : IsUnt
   attempted_by_found (Ok (j, n)) e h =
       let same : j ≡ i = subst (NoOther i) e other in
       elim (attempted_or held_bus guest g) [
-        | inl go ↦ subst (λ (k : Instr). is_attempted k guest ≡ true) (ap instr_in e ∙ same) go
+        | inl go ↦ subst (λ (k : Instr). is_attempted k guest ≡ true) (ap found_instr e ∙ same) go
         | inr refused ↦ absurd (subst IsBegun refused h)
       ]
 

@@ -1,6 +1,6 @@
 -- A turn of a seated guest.
 use Rattle.std.proofs.Common.{◌≡◌, ◌∙◌, ℕ, suc, ◌+◌, ◌^◌, ◌<◌, ◌≤◌, List, [], ◌∷◌, ◌++◌, length, Bool, cond, ◌==◌, true, false, arith, refl, ap, sym}
-use Rattle.std.proofs.Common.{subst, inl, inr, Option, Some, None}
+use Rattle.std.proofs.Common.{subst, inl, inr, Some, None}
 use Rattle.std.proofs.lemmas.List.{length-append}
 use Rattle.mb_port.specs.declared.types.Space.{Space}
 use Rattle.mb_model.specs.Status.{space_of}
@@ -60,6 +60,7 @@ use Rattle.law_turns.proofs.Lists.{between, beyond}
 use Rattle.law_turns.proofs.Batch.{runs_are_batches}
 use Rattle.law_turns.proofs.Quiet.{retired_steps_leave}
 use Rattle.law_turns.proofs.Turn.{boards_are_ready, exits_advance}
+use Rattle.law_held.proofs.Refills.{some_read}
 
 pub same_turned : (a b : Turned) → a.guest ≡ b.guest → a.tally ≡ b.tally → a.marks ≡ b.marks → a.exceptions ≡ b.exceptions → a ≡ b
 same_turned a b g t m e =
@@ -224,10 +225,6 @@ left_tried v = by_tests (v == ACCESS_ERROR) (is_refusal v)
     by_tests true b = tt
     by_tests false true = tt
     by_tests false false = tt
-
-pub some_read : (g h : Guest) (o : Option Reference) → refilled_at g o ≡ Some h → (r : Reference) × (o ≡ Some r)
-some_read g h None e = absurd (let z : None ≡ Some h = e in let y : ⊥ = cc in y)
-some_read g h (Some r) e = (r, refl)
 
 -- the first attempt of a step that the board left
 attempted : (script : Entries) (g : Guested) (v : ℕ) → class_of_vector v ≡ step_class_at_first script g → let b = guest_begun script g in

@@ -7,7 +7,7 @@ use Rattle.mb_port.specs.declared.types.Space.TheVariants.{User, Super}
 use Rattle.mb_port.specs.declared.types.Fault.{Fault}
 use Rattle.mb_frames.specs.declared.frame.Access.{Access}
 use Rattle.mb_frames.specs.declared.pend.Pend.{Pend}
-use Rattle.mb_frames.specs.AccessFields.{size_code, transfer_type, transfer_modifier, access_bits}
+use Rattle.mb_frames.specs.AccessFields.{access_bits}
 use Rattle.mb_frames.specs.AccessFields.{bit_if, is_other_page}
 use Rattle.mb_frames.specs.declared.status_bits.TheConstants.{CM, MA, ATC, LK, RW}
 use Rattle.mb_frames.specs.AccessFields.{status, read_fields, write_fields, line_fields, movem_fields, no_fields}
@@ -15,33 +15,9 @@ use Rattle.mb_frames.specs.AccessFields.{with_writeback_1, with_writeback_2, wit
 use Rattle.def_machine.specs.declared.reference.Reference.{Reference}
 use Rattle.def_guests.specs.Refills.{told_by}
 use Rattle.law_turns.specs.Reads.{is_read, is_code, read_of_access}
+use Rattle.mb_frames.proofs.StatusBits.{access_bits-le}
 
 -- ---- bits
-
-low_small : (len : ℕ) (space : Space) (code : Bool) → access_bits len space code ≤ 110
-low_small len space code = let a = few_sizes len in let b = few_types len in let c = few_modifiers space code in omega arith
-  where
-    few_sizes : (len : ℕ) → size_code len ≤ 3
-    few_sizes len = by_tests (len == 1) (len == 2) (len == 16)
-      where
-        by_tests : (a b c : Bool) → cond a 1 (cond b 2 (cond c 3 0)) ≤ 3
-        by_tests true b c = omega arith
-        by_tests false true c = omega arith
-        by_tests false false true = omega arith
-        by_tests false false false = omega arith
-
-    few_types : (len : ℕ) → transfer_type len ≤ 1
-    few_types len = by_test (len == 16)
-      where
-        by_test : (a : Bool) → cond a 1 0 ≤ 1
-        by_test true = omega arith
-        by_test false = omega arith
-
-    few_modifiers : (space : Space) (code : Bool) → transfer_modifier space code ≤ 6
-    few_modifiers User true = omega arith
-    few_modifiers User false = omega arith
-    few_modifiers Super true = omega arith
-    few_modifiers Super false = omega arith
 
 abbrev of_bit : Bool → ℕ
 of_bit b = cond b 1 0
@@ -91,7 +67,7 @@ read_told : (f : Fault) (first page : ℕ)
 read_told f first page =
     let ea = cond f.code f.at first in
     let low = access_bits f.len f.space f.code in
-    let t = told (f.atc && is_other_page page f.at ea) f.atc f.write low (low_small f.len f.space f.code) in
+    let t = told (f.atc && is_other_page page f.at ea) f.atc f.write low (access_bits-le f.len f.space f.code) in
     (tests _ _ _ f.write t.cm t.rw_ t.locked, code_test _ f.code (t.mode ∙ low_mode f.len f.space f.code), refl)
 
 pub read_is_told : (space : Space) (f g : Fault) (first page : ℕ) → g ≡ record f { space = space }
@@ -130,7 +106,7 @@ no_read cm rw_ lk h = rw h (by_test (not (cm == 1)))
     by_test false = refl
 
 status_reads_none : (f : Fault) (start page : ℕ) → status f start page / 2 ^ 8 % 2 ≡ 0
-status_reads_none f start page = no_rw (f.atc && is_other_page page f.at start) f.atc (access_bits f.len f.space f.code) (low_small f.len f.space f.code)
+status_reads_none f start page = no_rw (f.atc && is_other_page page f.at start) f.atc (access_bits f.len f.space f.code) (access_bits-le f.len f.space f.code)
 
 pub write_reads_none : (space : Space) (f : Fault) (first page : ℕ) (items : List Pend) → read_of_access space (Some (write_fields f first items page)) ≡ None
 write_reads_none space f first page items =
@@ -175,4 +151,4 @@ pub movem_reads_none : (space : Space) (f : Fault) (first start done words next 
 movem_reads_none space f first start done words next load page =
     let a = movem_fields f first start done words next load page in
     none_by space a (continued (a.ssw / 2 ^ 12 % 2) (a.ssw / 2 ^ 8 % 2) (a.ssw / 2 ^ 9 % 2)
-    (with_cm (f.atc && is_other_page page f.at start) f.atc load (access_bits f.len f.space f.code) (low_small f.len f.space f.code)))
+    (with_cm (f.atc && is_other_page page f.at start) f.atc load (access_bits f.len f.space f.code) (access_bits-le f.len f.space f.code)))

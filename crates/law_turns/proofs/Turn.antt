@@ -27,7 +27,9 @@ use Rattle.law_turns.proofs.Refill.{none_is_refilled}
 use Rattle.def_guests.specs.Exits.{class_of_vector, handed_by, frame_access, rest_by_frame}
 use Rattle.law_turns.specs.Exit.{left_guest}
 use Rattle.law_turns.specs.Turn.{FlushedIsSet, MoreStaysSet, BoardsAreReady, ExitsAdvance}
-use Rattle.law_turns.proofs.Registers.{same_word, seven, plain_again, same_user, same_mask, stays_plain, is_set, IsTidy}
+use Rattle.mb_instr.proofs.PlainRegisters.{plain_again, seven}
+use Rattle.law_turns.proofs.Registers.{same_word, same_user, same_mask, stays_plain, is_set, IsTidy}
+use Rattle.mb_frames.specs.declared.places.TheConstants.{LONGEST}
 
 -- ---- ready again
 
@@ -84,7 +86,7 @@ boards_are_ready x c world steps state g n set present has s =
         status = same_word _ c.regs.sr same.upper (subst (λ (k : ℕ). k < 2 ^ 16) (sym n.status) (omega arith));
         master = same.master ∙ ap is_master n.status;
         vectors = n.vectors;
-        stack = subst (λ (k : ℕ). 60 ≤ k) (sym same.isp) n.stack;
+        stack = subst (λ (k : ℕ). LONGEST ≤ k) (sym same.isp) n.stack;
         below = subst (λ (k : ℕ). k ≤ x.base) (sym same.isp) n.below;
         table = s.table;
         small = s.small;

@@ -9,7 +9,6 @@ use Rattle.std.specs.List.{list_all}
 use Rattle.mb_instr.specs.declared.size.Size.{Size}
 use Rattle.mb_instr.specs.declared.size.Size.TheVariants as size
 use Rattle.mb_instr.specs.declared.instruction.Instr.{Instr}
-use Rattle.mb_instr.specs.declared.kinds.Condition.{Condition}
 use Rattle.mb_instr.specs.Sizes.{low_of, sign_extended}
 use Rattle.mb_syntax.specs.declared.statement.SizeLetter.{SizeLetter}
 use Rattle.mb_syntax.specs.declared.mode.Base.{Base}
@@ -45,11 +44,13 @@ use Rattle.mb_mnemonics.specs.Operands.{takes_operands, value_of, destination_bi
 use Rattle.mb_mnemonics.specs.Ranges.{branch, displacement, distance, immediate_range, number}
 use Rattle.mb_mnemonics.specs.Sizes.{size_in}
 use Rattle.mb_mnemonics.specs.Values.{valued, valued_displacement, valued_field, valued_form, valued_mode, valued_number}
-use Rattle.mb_mnemonics.proofs.ModeWords.{chained, mapped}
+use Rattle.mb_mnemonics.proofs.ModeWords.{chained, mapped, if_some}
 use Rattle.mb_mnemonics.proofs.Names.{told_in}
 use Rattle.mb_mnemonics.proofs.SameForm.{form_of_same, operand_words_same}
 use Rattle.mb_asm.specs.Bytes.{is_out}
 use Rattle.mb_asm.specs.Values.{Scope, value_or_one, with_all_known, filled_base, filled_mode, target}
+use Rattle.mb_mnemonics.proofs.Length.{form_at, le_is}
+use Rattle.mb_instr.proofs.Ranges.{and_is}
 
 -- ---- numbers
 
@@ -467,11 +468,6 @@ words_few (pattern.Target size.Word) s o = zero-le
 words_few pattern.Absolute s o = omega arith
 words_few _ s o = zero-le
 
-and_is : (a b : Bool) → (a && b) ≡ true → (a ≡ true) × (b ≡ true)
-and_is true true e = (refl, refl)
-and_is true false e = absurd cc
-and_is false b e = absurd cc
-
 further_on : (i c w : ℕ) → ((i + c) % 4294967296 + 2 * w) % 4294967296 ≡ (i + (c + 2 * w)) % 4294967296
 further_on i c w = omega arith
 
@@ -514,17 +510,10 @@ all_short : list_all is_short lines ≡ true
 unfolding lines
 all_short = refl
 
-abbrev pub form_at : Line → Condition → Size → Form
-form_at l c s = record { line = l; condition = c; size = s }
-
 -- a form that is a line's, and takes the operands
 record IsForm (t : Form) (os : List (Operand ℤ)) : Type 0 where
   pub short : is_short t.line ≡ true
   pub takes : takes_operands (patterns_of t.line.operands) t.size os ≡ true
-
-if_some : {A : Type 0} (b : Bool) (x y : A) → (if b then Some x else None) ≡ Some y → (b ≡ true) × (x ≡ y)
-if_some true x y e = (refl, cc)
-if_some false x y e = absurd cc
 
 line_form : (l : Line) (name : List ℕ) (letter : Option SizeLetter) (os : List (Operand ℤ)) (t : Form) → is_short l ≡ true
     → form_by l name letter os ≡ Some t → IsForm t os
@@ -544,9 +533,6 @@ form_is (l ∷ ls) name letter os t short h =
       | None ↦ λ e k. form_is ls name letter os t both.1 k
       | Some u ↦ λ e k. line_form l name letter os t both.0 (e ∙ k)
     ] refl h
-
-le_is : (m n : ℕ) → nat_le m n ≡ true → m ≤ n
-le_is m n h = grind (arith, nat_tests)
 
 said_near : (t : Form) (i j : ℕ) (f g : Marked → ℤ) (os : List (Operand Sum)) → IsForm t (map (valued g) (map marked os)) → Fills i j f g
     → is_some (said t (map (valued g) (map marked os)) j) ≡ true → is_some (said t (map (valued f) (map marked os)) i) ≡ true

@@ -17,7 +17,7 @@ pub cut_pushed : (line : List ℕ) (from : ℕ) (tokens : List Token) (place : �
 cut_pushed line from [] place token cut start longest = (start ∙ sym cut, longest, refl)
 cut_pushed line from (first ∷ tokens) place token cut start longest = (cut.0, cut.1, cut_pushed line first.end tokens place token cut.2 start longest)
 
-abbrev token_by : TokenKind → ℕ → ℕ → Token
+abbrev pub token_by : TokenKind → ℕ → ℕ → Token
 token_by kind start end = record { kind = kind; start = start; end = end }
 
 spelled_at : (line : List ℕ) (kind : TokenKind) (start end place last : ℕ) → start ≡ place → end ≡ last

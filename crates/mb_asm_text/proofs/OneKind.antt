@@ -10,7 +10,7 @@ use Rattle.mb_asm_text.specs.Kinds.{Where, is_any, is_apostrophe, is_binary_digi
 use Rattle.mb_asm_text.proofs.Runs.{both}
 use Rattle.mb_asm_text.proofs.Shapes.{none_empty}
 
-apart : (b : Bool) → (IsTrue b → ⊥) → b ≡ false
+pub apart : (b : Bool) → (IsTrue b → ⊥) → b ≡ false
 apart true never = absurd (never refl)
 apart false never = refl
 
@@ -42,7 +42,7 @@ alone true false h = (refl, refl)
 alone true true h = absurd cc
 alone false comment h = absurd cc
 
-name_mark : (byte : ℕ) → IsTrue (is_name_start byte) → IsTrue (is_mark byte) → ⊥
+pub name_mark : (byte : ℕ) → IsTrue (is_name_start byte) → IsTrue (is_mark byte) → ⊥
 name_mark byte name mark = absurd (grind (arith, nat_tests))
 
 name_kind : (first : Bool) (byte : ℕ) → IsTrue (is_name_start byte) → kind_at first byte ≡ Name

@@ -22,7 +22,7 @@ use Rattle.mb_instr.specs.Operands.{allows, takes, mode, lower, more, is_immedia
 use Rattle.mb_instr.specs.Shapes.{op, with_word, word_ea}
 use Rattle.mb_instr.specs.Rows.{row}
 use Rattle.mb_decode.specs.Reading.{ruled_at}
-use Rattle.mb_decode.proofs.ReadBack.{and_is, next, unmet, word_read, by_size_read, taken, ruled_read, ea_read, word_ea_read, immediate_ea_read}
+use Rattle.mb_decode.proofs.ReadBack.{next, unmet, word_read, by_size_read, taken, ruled_read, ea_read, word_ea_read, immediate_ea_read}
 use Rattle.mb_decode.proofs.Found.{after, eq_true, eq_false}
 use Rattle.mb_decode.proofs.Steady.{then_steady, always, made_steady, made_readable, ruled_steady, ruled_readable}
 use Rattle.mb_decode.proofs.Shapes.{Found, Shape, none, either, equal, equals, below, only, by_size_shape, op_is, guarded, made_row, Same, made_row_if}
@@ -32,6 +32,7 @@ use Rattle.mb_decode.specs.RowReading.{status_0, immediate_0}
 use Rattle.mb_decode.specs.RowReading.{cmpi_0, moves_0, bit_0, even_0, line_0}
 use Rattle.mb_decode.proofs.Fields.{under_4, under_8, not_three, not_byte_of_bit, bit_kind_is, bit_kind_of, not_address, not_address_data, not_immediate}
 use Rattle.mb_decode.proofs.Fields.{not_immediate_memory}
+use Rattle.mb_instr.proofs.Ranges.{and_is}
 
 -- ---- from its spelling
 

@@ -14,12 +14,13 @@ use Rattle.mb_instr.specs.Operands.{allows, takes, mode, lower, more}
 use Rattle.mb_instr.specs.Shapes.{op}
 use Rattle.mb_instr.specs.Rows.{row}
 use Rattle.mb_decode.specs.Reading.{operand_at}
-use Rattle.mb_decode.proofs.ReadBack.{and_is, next, taken, operand_read, ea_read}
+use Rattle.mb_decode.proofs.ReadBack.{next, taken, operand_read, ea_read}
 use Rattle.mb_decode.proofs.Found.{after}
 use Rattle.mb_decode.proofs.Steady.{then_steady, always, made_steady, made_readable, operand_steady, operand_readable}
 use Rattle.mb_decode.proofs.Shapes.{Found, Shape, equal, only, op_is, guarded, made_row, both, joined, class_found, ea_shape}
 use Rattle.mb_decode.specs.RowReading.{move_mode, allows_move, move_at, movea_at, line_move}
 use Rattle.mb_decode.proofs.Fields.{move_bits_of, not_address}
+use Rattle.mb_instr.proofs.Ranges.{and_is}
 
 mode_of : (ea : Ea) → mode ea / 4 * 4 + mode ea % 4 ≡ mode ea
 mode_of ea = omega arith

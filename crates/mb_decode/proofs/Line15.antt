@@ -17,13 +17,14 @@ use Rattle.mb_instr.specs.Opcodes.{IsOpcode}
 use Rattle.mb_instr.specs.Operands.{long_words}
 use Rattle.mb_instr.specs.Shapes.{op, bare}
 use Rattle.mb_instr.specs.Rows.{row}
-use Rattle.mb_decode.proofs.ReadBack.{and_is, next, long_read, ruled_read}
+use Rattle.mb_decode.proofs.ReadBack.{next, long_read, ruled_read}
 use Rattle.mb_decode.proofs.Found.{eq_true}
 use Rattle.mb_decode.proofs.Shapes.{Shape, none, either, equal, equals, below, op_is, made_row, given, long_shape, ruled_shape}
 use Rattle.mb_decode.specs.Reading.{give, illegal}
 use Rattle.mb_decode.specs.RowReading.{cached_instr, caches_15, translation_15, lines_15, line_15}
 use Rattle.mb_decode.proofs.Fields.{under_4, under_8, line_kind_is, line_kind_of, line_low, caches_kind_is, caches_kind_of, flush_kind_is, flush_kind_of}
 use Rattle.mb_decode.proofs.Fields.{flush_low}
+use Rattle.mb_instr.proofs.Ranges.{and_is}
 
 -- ---- from its spelling
 

@@ -20,7 +20,7 @@ use Rattle.mb_instr.specs.Operands.{takes, mode, lower, more}
 use Rattle.mb_instr.specs.Shapes.{op, on_condition, sized, when, branch_byte, branch_words, is_branch, is_quick}
 use Rattle.mb_instr.specs.Rows.{row, trap_lower, trap_words}
 use Rattle.mb_decode.specs.Reading.{reads_then, give, branch_at, trap_operand_at}
-use Rattle.mb_decode.proofs.ReadBack.{and_is, next, word_read, taken, ea_read, sized_read, branch_read, trap_operand_read}
+use Rattle.mb_decode.proofs.ReadBack.{next, word_read, taken, ea_read, sized_read, branch_read, trap_operand_read}
 use Rattle.mb_decode.proofs.Found.{after, eq_true}
 use Rattle.mb_decode.proofs.Steady.{made_steady, branch_steady, trap_operand_steady}
 use Rattle.mb_decode.proofs.Shapes.{Found, Shape, either, equal, only, op_is, guarded, made_row, given, word_shape, ea_shape, sized_shape, FoundBranch}
@@ -28,6 +28,7 @@ use Rattle.mb_decode.proofs.Shapes.{branch_cases, FoundTrap, trap_cases}
 use Rattle.mb_decode.specs.RowReading.{low_byte, quick_value, conditional_5, quick_instr, quick_5, line_5, line_6, line_7}
 use Rattle.mb_decode.proofs.Fields.{under_2, not_three, not_address, not_trap, quick_again, is_quick_of, quick_field, condition_is, IsCondition}
 use Rattle.mb_decode.proofs.Fields.{condition_fields}
+use Rattle.mb_instr.proofs.Ranges.{and_is}
 
 byte_of : (n : ℕ) → n / 64 * 64 + n / 8 % 8 * 8 + n % 8 ≡ n
 byte_of n = omega arith

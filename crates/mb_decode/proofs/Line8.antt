@@ -18,12 +18,13 @@ use Rattle.mb_instr.specs.Opcodes.{IsOpcode}
 use Rattle.mb_instr.specs.Operands.{takes, mode, lower, more}
 use Rattle.mb_instr.specs.Shapes.{op, bare, with_word, at_ea, sized, when}
 use Rattle.mb_instr.specs.Rows.{row, exchange_bits, exchange_mode}
-use Rattle.mb_decode.proofs.ReadBack.{and_is, next, unmet, by_size_read, word_read, taken, ea_read, sized_read}
+use Rattle.mb_decode.proofs.ReadBack.{next, unmet, by_size_read, word_read, taken, ea_read, sized_read}
 use Rattle.mb_decode.proofs.Found.{eq_true}
 use Rattle.mb_decode.proofs.Shapes.{Shape, none, either, equal, equals, by_size_shape, op_is, guarded, made_row, given, word_shape, ea_shape, sized_shape}
 use Rattle.mb_decode.specs.RowReading.{source_class, binary_instr, binary_at, address_instr, address_at, extended_instr, extended_at, product_instr, product_at}
 use Rattle.mb_decode.specs.RowReading.{decimal_instr, packed_instr, packed_8, exchange_12, has_registers, pair_8, line_8, line_9, cmp_11, eor_11, line_11}
 use Rattle.mb_decode.proofs.Fields.{not_byte_of_bit, under_2, under_4, not_three, flag_is, flag_of, not_address, not_register}
+use Rattle.mb_instr.proofs.Ranges.{and_is}
 
 -- ---- from its spelling
 

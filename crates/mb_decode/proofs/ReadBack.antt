@@ -22,11 +22,7 @@ use Rattle.mb_instr.specs.Shapes.{op, branch_byte, branch_words, is_branch}
 use Rattle.mb_instr.specs.Rows.{trap_lower, trap_words}
 use Rattle.mb_decode.specs.Reading.{Reader, reads_then, give, by_size, word_at, long_at, wide_at, full_at, ext_at, immediate_at, operand_at, ruled_at, ea_at}
 use Rattle.mb_decode.specs.Reading.{sized_at, word_ea_at, immediate_ea_at, branch_at, trap_operand_at}
-
-pub and_is : (a b : Bool) → (a && b) ≡ true → (a ≡ true) × (b ≡ true)
-and_is true true e = (refl, refl)
-and_is true false e = absurd cc
-and_is false b e = absurd cc
+use Rattle.mb_instr.proofs.Ranges.{and_is}
 
 pub not_is : (a : Bool) → not a ≡ true → a ≡ false
 not_is true e = absurd cc

@@ -22,11 +22,11 @@ use Rattle.mb_instr.specs.Codes.{AreWords}
 use Rattle.mb_decode.specs.declared.reading.Stop.{Stop}
 use Rattle.mb_decode.specs.Reading.{Reader, reads_then, give, illegal, when_legal, by_size, word_at, long_at, immediate_at, operand_at, ruled_at, ea_at}
 use Rattle.mb_decode.specs.Reading.{sized_at, word_ea_at, immediate_ea_at, branch_at, trap_operand_at}
-use Rattle.mb_decode.proofs.ReadBack.{and_is}
 use Rattle.mb_decode.proofs.Found.{after, branch, eq_true, eq_false, Takes, word_found, long_found, immediate_found, operand_found, allowed_lower, IsOperand}
 use Rattle.mb_decode.proofs.Found.{nothing}
 use Rattle.mb_decode.proofs.Steady.{Steady, give_steady, illegal_steady, made_steady, operand_steady, word_ea_then_steady, immediate_then_ea_steady}
 use Rattle.mb_decode.proofs.Steady.{word_steady, long_steady, ruled_steady}
+use Rattle.mb_instr.proofs.Ranges.{and_is}
 
 -- the words are those of the row, before the rest
 pub record Fits (r : Row) (p : Opcode) (ws rest : List ℕ) : Type 0 where

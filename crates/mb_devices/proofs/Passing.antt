@@ -5,18 +5,18 @@ use Rattle.std.proofs.lemmas.Bool.Decides.{nat_tests}
 use Rattle.mb_devices.specs.Devices.{DeviceState, ticked, ticks, IsNotDue, passed, level_of}
 use Rattle.mb_devices.specs.Laws.{TicksPass}
 
-is_yes : (a b : ℕ) → a ≡ b → (a == b) ≡ true
+pub is_yes : (a b : ℕ) → a ≡ b → (a == b) ≡ true
 is_yes a b h = grind (arith, nat_tests)
 
-not_zero : (a : ℕ) → 1 < a → (a - 1 == 0) ≡ false
+pub not_zero : (a : ℕ) → 1 < a → (a - 1 == 0) ≡ false
 not_zero a h = grind (arith, nat_tests)
 
-still_tick : (d : DeviceState) → (d.period == 0) ≡ true → ticked d ≡ d
+pub still_tick : (d : DeviceState) → (d.period == 0) ≡ true → ticked d ≡ d
 unfolding ticked
 still_tick d h = rw h refl
 
 -- a tick that does not come to 0
-down_tick : (d : DeviceState) → (d.period == 0) ≡ false → 1 < d.count → ticked d ≡ record d { count = d.count - 1 }
+pub down_tick : (d : DeviceState) → (d.period == 0) ≡ false → 1 < d.count → ticked d ≡ record d { count = d.count - 1 }
 unfolding ticked
 down_tick d h more = rw h (rw (not_zero d.count more) refl)
 

@@ -9,11 +9,7 @@ use Rattle.mb_instr.specs.Shapes.{Row, further}
 use Rattle.mb_instr.specs.Codes.{Has, words_of, Spells, AreWords}
 use Rattle.mb_instr.proofs.Words.{IsWord, AreWords-tail}
 use Rattle.mb_encode.specs.Encodes.{written}
-
-and_is : (a b : Bool) → (a && b) ≡ true → (a ≡ true) × (b ≡ true)
-and_is true true e = (refl, refl)
-and_is true false e = absurd cc
-and_is false b e = absurd cc
+use Rattle.mb_instr.proofs.Ranges.{and_is}
 
 both : {a b : Bool} → a ≡ true → b ≡ true → (a && b) ≡ true
 both ha hb = rw (ha, hb) refl

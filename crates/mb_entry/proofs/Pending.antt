@@ -1,7 +1,7 @@
 -- The value of a piece in a long, whatever its length.
-use Rattle.std.proofs.Common.{◌≡◌, ℕ, zero, suc, ◌+◌, ◌-◌, ◌*◌, ◌%◌, ◌^◌, ◌<◌, ◌≤◌, arith, ap}
-use Rattle.std.proofs.lemmas.Nat.{pow-add, pow_pos}
-use Rattle.std.proofs.Math.Nat.{pow-le-pow_right, mul-lt-mul_of_pos_right, mod-eq_of_lt, mod-le}
+use Rattle.std.proofs.Common.{◌≡◌, ℕ, zero, suc, ◌-◌, ◌*◌, ◌%◌, ◌^◌, ◌<◌, ◌≤◌, arith, ap}
+use Rattle.std.proofs.Math.Nat.{pow-le-pow_right, mod-eq_of_lt, mod-le}
+use Rattle.mb_port.proofs.Laid.{shifted_fits}
 
 -- of four bytes and more a long is all
 pub value_whole : (value len : ℕ) → value < 2 ^ 32 → 4 ≤ len → value % 2 ^ (8 * len) ≡ value
@@ -10,16 +10,6 @@ value_whole value len h enough =
     let more : 32 ≤ 8 * len = omega arith in
     let wide : 2 ^ 32 ≤ 2 ^ (8 * len) = pow-le-pow_right some more in
     mod-eq_of_lt (omega arith)
-
--- a value of k bits, further up by j, is below 2 ^ 32
-shifted_fits : (v k j : ℕ) → k + j ≤ 32 → v % 2 ^ k * 2 ^ j < 2 ^ 32
-shifted_fits v k j h =
-    let some : 0 < 2 ^ k = pow_pos k in
-    let a : v % 2 ^ k < 2 ^ k = omega arith in
-    let b : v % 2 ^ k * 2 ^ j < 2 ^ k * 2 ^ j = mul-lt-mul_of_pos_right a (pow_pos j) in
-    let e : 2 ^ (k + j) ≡ 2 ^ k * 2 ^ j = pow-add 2 k j in
-    let q : 2 ^ (k + j) ≤ 2 ^ 32 = pow-le-pow_right (omega arith) h in
-    omega arith
 
 -- a value of so many bytes, with the bytes behind it
 pub value_fits : (x value at len behind : ℕ) → x < 2 ^ 32 → x ≡ value % 2 ^ (8 * len) → behind ≡ 4 - at % 4 - len

@@ -1,4 +1,5 @@
 pub mod Numbers
 pub mod Fields
 pub mod RoundTrip
+pub mod StatusBits
 pub mod TraceBit

@@ -2,3 +2,4 @@ pub mod Arrays
 pub mod Opcodes
 pub mod Words
 pub mod Ranges
+pub mod PlainRegisters

@@ -1,6 +1,6 @@
 -- No operation that has a line in the table of mnemonics is a directive.
 use Rattle.std.proofs.Common.{◌≡◌, ℕ, Bool, true, false, List, [], ◌∷◌, length, take, drop, refl, sym, ap, ◌∙◌}
-use Rattle.std.specs.Prelude.{nat_lt, not, ◌&&◌, ◌||◌, Option, Some, None, Ok, is_some, if◌then◌else◌}
+use Rattle.std.specs.Prelude.{nat_lt, not, ◌||◌, Option, Some, None, Ok, is_some, if◌then◌else◌}
 use Rattle.std.specs.Prelude.{ℤ}
 use Rattle.std.specs.Str.{bytes_eq, str_eq_ignore_ascii_case, str_to_ascii_lowercase}
 use Rattle.std.specs.Char.{to_ascii_lowercase}
@@ -18,6 +18,8 @@ use Rattle.mb_mnemonics.specs.Lines.{condition_by, condition_in, endings, lines,
 use Rattle.mb_mnemonics.specs.Means.{is_named, meaning}
 use Rattle.mb_mnemonics.proofs.Names.{unnamed}
 use Rattle.mb_asm.specs.Directives.{directives}
+use Rattle.mb_statement.proofs.Lexemes.{both}
+use Rattle.mb_statement.proofs.Spelled.{not_true}
 
 -- ---- names that differ in the case of their letters alone have the same lines
 
@@ -64,14 +66,6 @@ other_by key name true e k n =
     let alike : str_to_ascii_lowercase key ≡ str_to_ascii_lowercase name = (bytes_eq-Decides (str_to_ascii_lowercase key) (str_to_ascii_lowercase name)).0 e in
     absurd (let f : false ≡ true = sym k ∙ same_named key name alike lines ∙ n in cc)
 other_by key name false e k n = refl
-
-both : (a b : Bool) → (a && b) ≡ true → (a ≡ true) × (b ≡ true)
-both true b h = (refl, h)
-both false b h = absurd cc
-
-not_true : (b : Bool) → not b ≡ true → b ≡ false
-not_true true h = absurd cc
-not_true false h = refl
 
 -- names of rows that no line of the table has
 abbrev are_unnamed : {A : Type 0} → List (List ℕ × A) → Bool

@@ -15,6 +15,7 @@ use Rattle.mb_syntax.specs.Modes.{Sum}
 use Rattle.mb_mnemonics.specs.Values.{valued, valued_displacement, valued_mode, valued_number}
 use Rattle.mb_asm.specs.Values.{Scope, has_flaw, have_flaw, in_displacement, in_mode, in_number, in_operand, value_of, value_or_one, values_of}
 use Rattle.mb_statement.specs.Read.{sum_of}
+use Rattle.mb_statement.proofs.PartsRead.{Domain}
 
 -- ---- what no number has, no operand has
 
@@ -56,10 +57,6 @@ module _ (test : Sum → Bool) (none : (e : ℤ) → test (sum_of e) ≡ false) 
   in_none : (os : List (Operand ℤ)) → list_any (in_operand test) (map (valued sum_of) os) ≡ false
   in_none [] = refl
   in_none (o ∷ os) = rw (in_no_operand o) (in_none os)
-
--- what a function is of
-abbrev pub Domain : {A B : Type 0} → (A → B) → Type 0
-Domain {A} {B} f = A
 
 -- the kinds of flaws
 abbrev pub Flaw : Type 0

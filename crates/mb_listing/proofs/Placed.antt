@@ -23,8 +23,9 @@ use Rattle.mb_statement.specs.Texts.{statement_text}
 use Rattle.mb_statement.specs.Written.{is_written}
 use Rattle.mb_statement.proofs.StatementsRead.{text_read}
 use Rattle.mb_listing.specs.Laws.{source_at}
-use Rattle.mb_listing.proofs.Numbers.{Domain, Flaw, no_flaw, sum_value}
+use Rattle.mb_listing.proofs.Numbers.{Flaw, no_flaw, sum_value}
 use Rattle.mb_listing.proofs.Sources.{line_of, named, numbered_line, operation_of, org, org_written, source_lines}
+use Rattle.mb_statement.proofs.PartsRead.{Domain}
 
 -- what is written, and the address behind it
 abbrev pub laid_by : List ℕ → ℕ → Laid

@@ -1,7 +1,7 @@
 -- The words of the instruction that a statement means are as many as its length says.
 use Rattle.std.proofs.Common.{◌≡◌, ℕ, zero, suc, ◌+◌, ◌*◌, ◌%◌, ◌^◌, ◌<◌, ◌≤◌, Bool, true, false, List, [], ◌∷◌, length, take, Option, Some, None}
 use Rattle.std.proofs.Common.{Ok, Err, refl, sym, ap, subst, ◌∙◌, arith}
-use Rattle.std.specs.Prelude.{ℤ, ◌&&◌, ◌==◌, nat_le, if◌then◌else◌, ok_or, option_map}
+use Rattle.std.specs.Prelude.{ℤ, ◌==◌, nat_le, if◌then◌else◌, ok_or, option_map}
 use Rattle.std.specs.List.{list_all}
 use Rattle.std.specs.Option.{option_or}
 use Rattle.std.proofs.lemmas.Bool.Decides.{nat_tests}
@@ -24,8 +24,9 @@ use Rattle.mb_mnemonics.specs.Means.{Form, first_word, form_among, form_by, form
 use Rattle.mb_mnemonics.specs.Means.{size_by, told, whole, words_said}
 use Rattle.mb_mnemonics.specs.Operands.{in_first, operands_said, operands_words, takes_operands}
 use Rattle.mb_mnemonics.specs.Sizes.{size_in}
-use Rattle.mb_mnemonics.proofs.ModeWords.{Fits, both_fit, chained, mapped, none_fits, one_fits}
+use Rattle.mb_mnemonics.proofs.ModeWords.{Fits, both_fit, chained, mapped, none_fits, one_fits, if_some}
 use Rattle.mb_mnemonics.proofs.OperandWords.{operands_fit}
+use Rattle.mb_instr.proofs.Ranges.{and_is}
 
 -- ---- forms
 
@@ -37,21 +38,13 @@ all_short : list_all is_short lines ≡ true
 unfolding lines
 all_short = refl
 
-and_is : (a b : Bool) → (a && b) ≡ true → (a ≡ true) × (b ≡ true)
-and_is true b e = (refl, e)
-and_is false b e = absurd cc
-
-le_is : (m n : ℕ) → nat_le m n ≡ true → m ≤ n
+pub le_is : (m n : ℕ) → nat_le m n ≡ true → m ≤ n
 le_is m n h = grind (arith, nat_tests)
 
 equal_is : (m n : ℕ) → (m == n) ≡ true → m ≡ n
 equal_is m n h = grind (arith, nat_tests)
 
-if_some : {A : Type 0} (b : Bool) (x y : A) → (if b then Some x else None) ≡ Some y → (b ≡ true) × (x ≡ y)
-if_some true x y e = (refl, cc)
-if_some false x y e = absurd cc
-
-abbrev form_at : Line → Condition → Size → Form
+abbrev pub form_at : Line → Condition → Size → Form
 form_at l c s = record { line = l; condition = c; size = s }
 
 -- a form is one of its line's, and takes the operands

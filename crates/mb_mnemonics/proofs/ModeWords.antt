@@ -40,7 +40,7 @@ pub chained : {A B : Type 0} (f : A → Option B) (o : Option A) (y : B)
 chained f None y e = absurd cc
 chained f (Some x) y e = (x, (refl, e))
 
-if_some : {A : Type 0} (b : Bool) (x y : A) → (if b then Some x else None) ≡ Some y → (b ≡ true) × (x ≡ y)
+pub if_some : {A : Type 0} (b : Bool) (x y : A) → (if b then Some x else None) ≡ Some y → (b ≡ true) × (x ≡ y)
 if_some true x y e = (refl, cc)
 if_some false x y e = absurd cc
 

@@ -1,6 +1,6 @@
 -- What operands say has as many words of its own as their length says, and each of 16 bits.
-use Rattle.std.proofs.Common.{◌≡◌, ℕ, ◌+◌, ◌*◌, ◌%◌, ◌^◌, ◌<◌, Bool, true, false, List, [], ◌∷◌, Option, Some, None, refl, subst, arith}
-use Rattle.std.specs.Prelude.{ℤ, ◌&&◌, if◌then◌else◌, option_map, option_and_then}
+use Rattle.std.proofs.Common.{◌≡◌, ℕ, ◌+◌, ◌*◌, ◌%◌, ◌^◌, ◌<◌, Bool, true, false, List, [], ◌∷◌, Option, Some, None, subst, arith}
+use Rattle.std.specs.Prelude.{ℤ, if◌then◌else◌, option_map, option_and_then}
 use Rattle.mb_instr.specs.declared.size.Size.{Size}
 use Rattle.mb_instr.specs.declared.size.Size.TheVariants as size
 use Rattle.mb_instr.specs.Sizes.{values_of}
@@ -19,6 +19,7 @@ use Rattle.mb_mnemonics.specs.Operands.{Said, ea_said, field_bits, is_data, mode
 use Rattle.mb_mnemonics.specs.Operands.{reach_said, register_at, source_bits, takes_mode, takes_operand, takes_operands, together, value_of}
 use Rattle.mb_mnemonics.proofs.ModeWords.{Fits, both_fit, chained, displacement_small, immediate_fits, long_fits, mapped, mode_fits, none_fits}
 use Rattle.mb_mnemonics.proofs.ModeWords.{number_small}
+use Rattle.mb_instr.proofs.Ranges.{and_is}
 
 -- what an option gives
 part_fits : {A : Type 0} (n : ℕ) (f : A → Said) (o : Option A) (a : Said) → ((x : A) → o ≡ Some x → Fits n (f x).own)
@@ -125,10 +126,6 @@ operand_own _ s at here (operand.Text x) a k e = absurd cc
 pub record AllFit (n : ℕ) (a : Said) : Type 0 where
   pub own : Fits n a.own
   pub third : a.third < 2 ^ 16
-
-and_is : (a b : Bool) → (a && b) ≡ true → (a ≡ true) × (b ≡ true)
-and_is true b e = (refl, e)
-and_is false b e = absurd cc
 
 more_fit : (n m : ℕ) (q a : Said) → AllFit n q → Fits m a.own → AllFit (n + m) (together q a)
 more_fit n m q a h k = record { own = both_fit n m q.own a.own h.own k; third = omega arith }

@@ -1,6 +1,6 @@
 -- The endings of names are short.
 use Rattle.std.proofs.Common.{◌≡◌, ℕ, ◌≤◌, Bool, true, false, List, [], ◌∷◌, length, refl, arith, zero-le}
-use Rattle.std.specs.Prelude.{◌&&◌, ◌==◌, nat_le, if◌then◌else◌}
+use Rattle.std.specs.Prelude.{◌==◌, nat_le, if◌then◌else◌}
 use Rattle.std.specs.List.{list_all}
 use Rattle.std.proofs.lemmas.Bool.Decides.{nat_tests}
 use Rattle.mb_instr.specs.Kinds.{condition_bits}
@@ -9,10 +9,7 @@ use Rattle.mb_mnemonics.specs.declared.line.Ending.{Ending}
 use Rattle.mb_mnemonics.specs.declared.line.Ending.TheVariants as ending
 use Rattle.mb_mnemonics.specs.Code.{most_ending}
 use Rattle.mb_mnemonics.specs.Lines.{ending_name, endings, stem_of}
-
-and_is : (a b : Bool) → (a && b) ≡ true → (a ≡ true) × (b ≡ true)
-and_is true b e = (refl, e)
-and_is false b e = absurd cc
+use Rattle.mb_instr.proofs.Ranges.{and_is}
 
 le_is : (a b : ℕ) → nat_le a b ≡ true → a ≤ b
 le_is a b h = grind (arith, nat_tests)

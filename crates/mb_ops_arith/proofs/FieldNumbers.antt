@@ -1,11 +1,5 @@
 -- Numbers of a field's width.
-use Rattle.std.proofs.Common.{◌≡◌, ℕ, zero, suc, ◌-◌, ◌*◌, ◌%◌, ◌^◌, ◌<◌, ◌≤◌, refl, ap, ◌∙◌, subst, arith}
-use Rattle.std.specs.Prelude.{bit_and}
-use Rattle.std.proofs.lemmas.Nat.{and_mask}
-
--- the low bits of a number, by a mask
-pub masked : (v m k : ℕ) → m ≡ 2 ^ k - 1 → bit_and v m ≡ v % 2 ^ k
-masked v m k e = ap (bit_and v) e ∙ and_mask v k
+use Rattle.std.proofs.Common.{◌≡◌, ℕ, zero, suc, ◌-◌, ◌*◌, ◌^◌, ◌<◌, ◌≤◌, refl, subst, arith}
 
 -- the bits of one to five bytes
 pub bits_of_bytes : (n : ℕ) → n ≤ 5 → 256 ^ n ≡ 2 ^ (8 * n)

@@ -1,59 +1,36 @@
 -- One bit of a number.
 use Rattle.std.proofs.Common.{◌≡◌, ℕ, zero, suc, ◌+◌, ◌-◌, ◌*◌, ◌/◌, ◌%◌, ◌^◌, ◌<◌, ◌≤◌, true, false, refl, ap, sym, ◌∙◌, arith}
 use Rattle.std.specs.Prelude.{bit_and, bit_or, bit_xor, not, ◌==◌}
-use Rattle.std.specs.Int.Bits.{or_zero_r, xor_zero_r}
+use Rattle.std.specs.Int.Bits.{xor_zero_r}
 use Rattle.std.specs.Int.{w32, bit_not}
-use Rattle.std.proofs.lemmas.Nat.{and_mask, and_block, or_block, xor_block, pow_pos, pow-add, shr_below}
+use Rattle.std.proofs.lemmas.Nat.{and_mask, and_block, xor_block, pow_pos, pow-add, shr_below}
 use Rattle.std.proofs.lemmas.Nat.Bits.{and_high_mask}
 use Rattle.std.proofs.Math.Nat.{mod-eq_of_lt, add-mul}
 use Rattle.std.proofs.Math.Pow.{pow_mono}
 use Rattle.std.specs.Int.{from_bool}
 use Rattle.mb_instr.specs.Sizes.{is_set}
 use Rattle.def_instructions.specs.Bits.{with_bit_as}
-
-low_or : (r : ℕ) → r < 2 → bit_or r 1 ≡ 1
-low_or zero h = refl
-low_or (suc zero) h = refl
-low_or (suc (suc r)) h = absurd (omega arith)
+use Rattle.mb_port.proofs.SetBits.{alone, below, or_bit, split}
 
 low_xor : (r : ℕ) → r < 2 → bit_xor r 1 ≡ from_bool (not (r == 1))
 low_xor zero h = refl
 low_xor (suc zero) h = refl
 low_xor (suc (suc r)) h = absurd (omega arith)
 
-or_one : (q : ℕ) → bit_or q 1 ≡ q / 2 * 2 + 1
-or_one q =
-    let split : q ≡ q / 2 * 2 ^ 1 + q % 2 = omega arith in
-    ap (λ (n : ℕ). bit_or n 1) split ∙ or_block 1 (q / 2) 0 (q % 2) 1 (omega arith) (omega arith)
-    ∙ rw (or_zero_r (q / 2), low_or (q % 2) (omega arith)) refl
-
 xor_one : (q : ℕ) → bit_xor q 1 ≡ q / 2 * 2 + from_bool (not (q % 2 == 1))
 xor_one q =
-    let split : q ≡ q / 2 * 2 ^ 1 + q % 2 = omega arith in
-    ap (λ (n : ℕ). bit_xor n 1) split ∙ xor_block 1 (q / 2) 0 (q % 2) 1 (omega arith) (omega arith)
+    let parts : q ≡ q / 2 * 2 ^ 1 + q % 2 = omega arith in
+    ap (λ (n : ℕ). bit_xor n 1) parts ∙ xor_block 1 (q / 2) 0 (q % 2) 1 (omega arith) (omega arith)
     ∙ rw (xor_zero_r (q / 2), low_xor (q % 2) (omega arith)) refl
 
 module _ (v p : ℕ) where
-  -- the number by the bits from that one on, and those below it
-  split : v ≡ v / 2 ^ p * 2 ^ p + v % 2 ^ p
-  split = let some = pow_pos p in omega arith
-
-  below : v % 2 ^ p < 2 ^ p
-  below = let some = pow_pos p in omega arith
-
-  alone : 2 ^ p ≡ 1 * 2 ^ p + 0
-  alone = omega arith
-
   pub set_is : bit_or v (2 ^ p) ≡ with_bit_as p v true
-  set_is =
-      ap (λ (n : ℕ). bit_or n (2 ^ p)) split ∙ ap (λ (n : ℕ). bit_or (v / 2 ^ p * 2 ^ p + v % 2 ^ p) n) alone
-      ∙ or_block p (v / 2 ^ p) 1 (v % 2 ^ p) 0 below (pow_pos p)
-      ∙ rw (or_zero_r (v % 2 ^ p), or_one (v / 2 ^ p)) refl
+  set_is = or_bit v p
 
   pub changed_is : bit_xor v (2 ^ p) ≡ with_bit_as p v (not (is_set v p))
   changed_is =
-      ap (λ (n : ℕ). bit_xor n (2 ^ p)) split ∙ ap (λ (n : ℕ). bit_xor (v / 2 ^ p * 2 ^ p + v % 2 ^ p) n) alone
-      ∙ xor_block p (v / 2 ^ p) 1 (v % 2 ^ p) 0 below (pow_pos p)
+      ap (λ (n : ℕ). bit_xor n (2 ^ p)) (split v p) ∙ ap (λ (n : ℕ). bit_xor (v / 2 ^ p * 2 ^ p + v % 2 ^ p) n) (alone v p)
+      ∙ xor_block p (v / 2 ^ p) 1 (v % 2 ^ p) 0 (below v p) (pow_pos p)
       ∙ rw (xor_zero_r (v % 2 ^ p), xor_one (v / 2 ^ p)) refl
 
   -- all bits of a long but that one
@@ -75,6 +52,6 @@ module _ (v p : ℕ) where
       let whole : 2 ^ ((32 - p) + p) ≡ 2 ^ 32 = ap (λ (n : ℕ). 2 ^ n) more in
       let nothing : v / 2 ^ p / 2 * 2 + 0 ≡ v / 2 ^ p / 2 * 2 = omega arith in
       let high : v / 2 ^ p < 2 ^ (32 - p) = shr_below v (32 - p) p (rw whole fits) in
-      ap (λ (n : ℕ). bit_and n (bit_not w32 (2 ^ p))) split ∙ ap (λ (n : ℕ). bit_and (v / 2 ^ p * 2 ^ p + v % 2 ^ p) n) (others h)
-      ∙ and_block p (v / 2 ^ p) (2 ^ (32 - p) - 2 ^ 1) (v % 2 ^ p) (2 ^ p - 1) below (omega arith)
-      ∙ rw (and_high_mask (32 - p) 1 (omega arith) (v / 2 ^ p) high, and_mask (v % 2 ^ p) p, mod-eq_of_lt below, nothing) refl
+      ap (λ (n : ℕ). bit_and n (bit_not w32 (2 ^ p))) (split v p) ∙ ap (λ (n : ℕ). bit_and (v / 2 ^ p * 2 ^ p + v % 2 ^ p) n) (others h)
+      ∙ and_block p (v / 2 ^ p) (2 ^ (32 - p) - 2 ^ 1) (v % 2 ^ p) (2 ^ p - 1) (below v p) (omega arith)
+      ∙ rw (and_high_mask (32 - p) 1 (omega arith) (v / 2 ^ p) high, and_mask (v % 2 ^ p) p, mod-eq_of_lt (below v p), nothing) refl

@@ -77,7 +77,7 @@ fn ones(width: u8) -> u32
 
 /// The low bits of a value, as many as the width.
 #[inline(always)]
-#[tactic(auto, using(crate::proofs::FieldNumbers::masked))]
+#[tactic(auto, using(mb_port::proofs::Laid::masked))]
 fn low(width: u8, value: u32) -> u32
     requires { width ≤ 32 }
     ensures value { result ≡ value % 2 ^ width }

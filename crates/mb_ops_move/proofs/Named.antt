@@ -1,6 +1,6 @@
 -- The registers that a mask names, by its set bits one after the other.
 use Rattle.std.proofs.Common.{◌≡◌, ◌≢◌, ℕ, zero, suc, ◌+◌, ◌-◌, ◌<◌, ◌/◌, ◌%◌, ◌^◌, true, false}
-use Rattle.std.proofs.Common.{[], ◌∷◌, refl, ap, sym, ◌∙◌, arith}
+use Rattle.std.proofs.Common.{[], ◌∷◌, ap, sym, ◌∙◌, arith}
 use Rattle.std.specs.Int.{bit_at, trailing_zeros, w32}
 use Rattle.std.proofs.Math.Nat.{lt_of_not-le}
 use Rattle.std.proofs.lemmas.Nat.{shr-shr, shr_le}
@@ -8,6 +8,7 @@ use Rattle.std.proofs.lemmas.Nat.Bits.{bit_at-trailing_zeros, bit_at-zero, bit_a
 use Rattle.std.proofs.lemmas.Bool.Decides.{nat_tests}
 use Rattle.mb_instr.specs.Sizes.{is_set}
 use Rattle.mb_writes.specs.Transfers.{set_bits}
+use Rattle.mb_writes.proofs.Bits.{no_bits, with_bit, without_bit}
 
 -- ---- bits that are not set are passed
 
@@ -16,18 +17,6 @@ is_set_at mask k h = grind (arith, nat_tests)
 
 is_clear_at : (mask k : ℕ) → bit_at mask k ≡ 0 → is_set mask k ≡ false
 is_clear_at mask k h = grind (arith, nat_tests)
-
-with_bit : (mask k n : ℕ) → is_set mask k ≡ true → set_bits mask k (suc n) ≡ k ∷ set_bits mask (k + 1) n
-unfolding set_bits
-with_bit mask k n h = rw h refl
-
-without_bit : (mask k n : ℕ) → is_set mask k ≡ false → set_bits mask k (suc n) ≡ set_bits mask (k + 1) n
-unfolding set_bits
-without_bit mask k n h = rw h refl
-
-no_bits : (mask k : ℕ) → set_bits mask k zero ≡ []
-unfolding set_bits
-no_bits mask k = refl
 
 passed : (mask k n clear : ℕ) → ((i : ℕ) → i < clear → bit_at mask (k + i) ≡ 0)
     → set_bits mask k (clear + n) ≡ set_bits mask (k + clear) n

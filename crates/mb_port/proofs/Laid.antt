@@ -8,7 +8,7 @@ use Rattle.mb_port.specs.declared.types.Piece.{Piece}
 use Rattle.mb_port.specs.Pieces.{IsPiece, laid, unlaid}
 
 -- a value of k bits, further up by j, is below 2 ^ 32
-shifted_fits : (v k j : ℕ) → k + j ≤ 32 → v % 2 ^ k * 2 ^ j < 2 ^ 32
+pub shifted_fits : (v k j : ℕ) → k + j ≤ 32 → v % 2 ^ k * 2 ^ j < 2 ^ 32
 shifted_fits v k j h =
     let some : 0 < 2 ^ k = pow_pos k in
     let a : v % 2 ^ k < 2 ^ k = omega arith in
@@ -17,7 +17,7 @@ shifted_fits v k j h =
     let q : 2 ^ (k + j) ≤ 2 ^ 32 = pow-le-pow_right (omega arith) h in
     omega arith
 
-masked : (v m k : ℕ) → m ≡ 2 ^ k - 1 → bit_and v m ≡ v % 2 ^ k
+pub masked : (v m k : ℕ) → m ≡ 2 ^ k - 1 → bit_and v m ≡ v % 2 ^ k
 masked v m k e = ap (bit_and v) e ∙ and_mask v k
 
 -- `(v & mask) << j`

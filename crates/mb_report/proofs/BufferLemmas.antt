@@ -8,7 +8,7 @@ use Rattle.mb_outside.proofs.PrintLemmas.{prints_more, more_more}
 use Rattle.mb_report.specs.declared.buffered.Buffered.{Buffered}
 use Rattle.mb_report.specs.Buffered.{Buffers}
 
-grows_nothing : (o : Option (List ℕ)) → Grows o o []
+pub grows_nothing : (o : Option (List ℕ)) → Grows o o []
 grows_nothing None = refl
 grows_nothing (Some bytes) = ap (λ (xs : List ℕ). Some xs) (sym (append-nil bytes))
 

@@ -16,6 +16,7 @@ use Rattle.mb_asm_text.specs.Cutting.{front_found, cut_from}
 use Rattle.mb_syntax.specs.declared.word.Name.{Name}
 use Rattle.mb_syntax.specs.declared.word.Word.{Word}
 use Rattle.mb_syntax.specs.Words.{word_of, words_of, place_of}
+use Rattle.mb_asm_text.proofs.Cuts.{token_by}
 
 -- bytes that are one token of a kind, and the word that it says at a place
 pub record Lexeme : Type 0 where
@@ -54,9 +55,6 @@ spelled ls = flat_map (λ (l : Lexeme). l.bytes) ls
 abbrev pub are_parted : List Lexeme → List ℕ → Bool
 are_parted [] rest = true
 are_parted (l ∷ ls) rest = ends l.kind (spelled ls ++ rest) && are_parted ls rest
-
-abbrev pub token_by : TokenKind → ℕ → ℕ → Token
-token_by kind start end = record { kind = kind; start = start; end = end }
 
 abbrev pub tokens_at : ℕ → List Lexeme → List Token
 tokens_at place [] = []

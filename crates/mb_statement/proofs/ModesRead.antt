@@ -27,7 +27,7 @@ use Rattle.mb_statement.specs.Read.{sum_of}
 use Rattle.mb_statement.specs.Texts.{asks_full, is_left_out, is_no_index, is_one, is_word}
 use Rattle.mb_statement.specs.Written.{is_index, is_mode, is_register, says_full}
 use Rattle.mb_statement.proofs.Lexemes.{Lexeme, both, said}
-use Rattle.mb_statement.proofs.Spelled.{reg, size, hash, open_mark, close_mark, open_square, close_square, comma, dot, plus, minus}
+use Rattle.mb_statement.proofs.Spelled.{reg, size, hash, open_mark, close_mark, open_square, close_square, comma, dot, plus, minus, not_true}
 use Rattle.mb_syntax.specs.Options.{◌>>=◌}
 use Rattle.mb_statement.proofs.PartsRead.{GroupRead, SizedRead, after, behind_lexemes, ends_register, index}
 use Rattle.mb_statement.proofs.PartsRead.{displacement, displacement_lexemes, ends_sum, group, group_lexemes, group_read}
@@ -57,10 +57,6 @@ stepped_end n [] h = refl
 stepped_end n (word.Comma ∷ words) h = refl
 stepped_end n (word.OpenBrace ∷ words) h = refl
 stepped_end n (first ∷ words) h = absurd cc
-
-pub not_false : (b : Bool) → not b ≡ true → b ≡ false
-not_false true h = absurd cc
-not_false false h = refl
 
 pub both_false : (b : Bool) → (b && false) ≡ true → ⊥
 both_false true h = absurd cc
@@ -303,7 +299,7 @@ mode_lexemes (mode.Full f) = full_lexemes f.indirection f.displacement f.base (w
 mode_lexemes (mode.Immediate e) = hash ∷ value e
 
 not_dropped : (i : Index) → is_index i ≡ true → i.is_dropped ≡ false
-not_dropped i h = not_false i.is_dropped (both (not i.is_dropped) (is_register i.register) h).0
+not_dropped i h = not_true i.is_dropped (both (not i.is_dropped) (is_register i.register) h).0
 
 -- the place behind `(e,`, a register and `,`
 abbrev indexed_at : ℕ → ℤ → Register → ℕ

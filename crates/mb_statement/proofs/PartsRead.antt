@@ -161,7 +161,7 @@ abbrev pub group_lexemes : Option (Displacement ℤ) → Base → Option Index �
 group_lexemes d b x = front_lexemes d ++ base_lexemes b x
 
 -- what a function is of
-abbrev Domain : {A B : Type 0} → (A → B) → Type 0
+abbrev pub Domain : {A B : Type 0} → (A → B) → Type 0
 Domain {A} {B} f = A
 
 -- a sum with its width, as it is read

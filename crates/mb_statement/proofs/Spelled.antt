@@ -1,6 +1,6 @@
 -- Each lexeme of a statement's text is one.
 use Rattle.std.proofs.Common.{◌≡◌, ℕ, ◌+◌, ◌-◌, ◌%◌, ◌≤◌, ◌<◌, Bool, true, false, List, [], ◌∷◌, ◌++◌, length, refl, ap, ◌∙◌, arith}
-use Rattle.std.specs.Prelude.{IsTrue, ◌==◌, not, Some, nat_le, codes}
+use Rattle.std.specs.Prelude.{◌==◌, not, Some, nat_le, codes}
 use Rattle.std.specs.List.{list_all, prefix_len}
 use Rattle.std.proofs.lemmas.Bool.{ne_eqb, le-leb}
 use Rattle.std.proofs.lemmas.Bool.Decides.{nat_tests}
@@ -31,6 +31,7 @@ use Rattle.mb_statement.specs.Texts.{numbered, caches_text}
 use Rattle.mb_statement.specs.Written.{is_name}
 use Rattle.mb_statement.proofs.Digits.{Spells, last_spells}
 use Rattle.mb_statement.proofs.Lexemes.{ArePlain, Lexeme, IsLexeme, both, ends, ends_run}
+use Rattle.mb_asm_text.proofs.OneKind.{apart, name_mark}
 
 -- ---- runs
 
@@ -42,7 +43,7 @@ run_ends p (x ∷ xs) rest all none =
     let more = run_ends p xs rest parts.1 none in
     rw parts.0 (omega (arith, more))
 
-not_true : (b : Bool) → not b ≡ true → b ≡ false
+pub not_true : (b : Bool) → not b ≡ true → b ≡ false
 not_true true h = absurd cc
 not_true false h = refl
 
@@ -71,13 +72,6 @@ one_plain byte h = All-cons (λ c. 13 < c) byte [] h (All-nil (λ c. 13 < c))
 
 abbrev pub named : List ℕ → (Name → Word) → Lexeme
 named bytes says = record { bytes = bytes; kind = kind.Name; word = says }
-
-apart : (b : Bool) → (IsTrue b → ⊥) → b ≡ false
-apart true never = absurd (never refl)
-apart false never = refl
-
-name_mark : (byte : ℕ) → IsTrue (is_name_start byte) → IsTrue (is_mark byte) → ⊥
-name_mark byte name mark = absurd (grind (arith, nat_tests))
 
 start_plain : (byte : ℕ) → is_name_start byte ≡ true → 13 < byte
 start_plain byte h = grind (arith, nat_tests)

@@ -37,11 +37,12 @@ use Rattle.mb_statement.specs.Texts.{operands_behind as operands_text}
 use Rattle.mb_mnemonics.specs.Values.{valued}
 use Rattle.mb_statement.specs.Read.{read_of, sum_of}
 use Rattle.mb_statement.specs.Written.{is_name, is_operand, is_written}
-use Rattle.mb_statement.proofs.Lexemes.{ArePlain, Lexeme, IsLexeme, Stands, both, cut_on, cut_step, said, spelled, token_by, tokens_at, words_on}
+use Rattle.mb_statement.proofs.Lexemes.{ArePlain, Lexeme, IsLexeme, Stands, both, cut_on, cut_step, said, spelled, tokens_at, words_on}
 use Rattle.mb_statement.proofs.Spelled.{blank, blank_is}
 use Rattle.mb_statement.proofs.PartsRead.{after, said_append}
 use Rattle.mb_statement.proofs.OperandsRead.{behind_operands, operand_lexemes, operand_read, operands_read}
 use Rattle.mb_statement.proofs.StatementsSaid.{fit_statement, first_operands, size_lexemes, statement_lexemes, statement_parts, statement_said}
+use Rattle.mb_asm_text.proofs.Cuts.{token_by}
 
 -- any name names an operation
 named_so : (r : Option Register) (l : Option SizeLetter) (c : Option Caches) (name : Name)

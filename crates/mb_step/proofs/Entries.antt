@@ -19,7 +19,7 @@ pub unchecked_awake : {S : Type 0} (bus : Bus S) (is_trace : Bool) (fault : Faul
 unchecked_awake bus is_trace fault cpu s = refl
 
 -- a processor with other registers
-abbrev holding : Regs → Cpu → Cpu
+abbrev pub holding : Regs → Cpu → Cpu
 holding r cpu = record cpu { regs = r }
 
 -- the processor before an instruction that traps comes back, where the frame has no place

@@ -24,15 +24,15 @@ is_set_of mask k h =
 is_clear_of : (mask k : ℕ) → bit_and (mask / 2 ^ k) 1 ≡ 0 → is_set mask k ≡ false
 is_clear_of mask k h = let e = sym (low_bit (mask / 2 ^ k)) ∙ h in grind (arith, nat_tests)
 
-with_bit : (mask k n : ℕ) → is_set mask k ≡ true → set_bits mask k (suc n) ≡ k ∷ set_bits mask (k + 1) n
+pub with_bit : (mask k n : ℕ) → is_set mask k ≡ true → set_bits mask k (suc n) ≡ k ∷ set_bits mask (k + 1) n
 unfolding set_bits
 with_bit mask k n h = rw h refl
 
-without_bit : (mask k n : ℕ) → is_set mask k ≡ false → set_bits mask k (suc n) ≡ set_bits mask (k + 1) n
+pub without_bit : (mask k n : ℕ) → is_set mask k ≡ false → set_bits mask k (suc n) ≡ set_bits mask (k + 1) n
 unfolding set_bits
 without_bit mask k n h = rw h refl
 
-no_bits : (mask k : ℕ) → set_bits mask k 0 ≡ []
+pub no_bits : (mask k : ℕ) → set_bits mask k 0 ≡ []
 unfolding set_bits
 no_bits mask k = refl
 

@@ -1,9 +1,8 @@
 -- Commands that were carried out, and their lines in a sink.
 use Rattle.std.proofs.Common.{◌≡◌, ◌∙◌, ℕ, suc, ◌+◌, ◌≤◌, ◌<◌, List, [], ◌∷◌, ◌++◌, length, take, drop, get_or, refl, ap, sym, subst}
-use Rattle.std.specs.Prelude.{Option, Some, None}
+use Rattle.std.specs.Prelude.{Option}
 use Rattle.std.proofs.lemmas.List.{append-nil, take_more, take-append-drop}
 use Rattle.std.proofs.Math.Seq.{drop-cons}
-use Rattle.mb_outside.specs.Sink.{Grows}
 use Rattle.mb_outside.specs.Prints.{Printed, PrintedPart}
 use Rattle.mb_outside.proofs.PrintLemmas.{printed_then, part_then, part_more}
 use Rattle.def_guests.specs.Seats.{IsSeated, Scene}
@@ -12,6 +11,7 @@ use Rattle.vm_debug.specs.declared.command.Command.{Command}
 use Rattle.vm_debug.specs.Debugs.{after, printed, printed_by}
 use Rattle.vm_debug.specs.Boards.{machine_at, course_of, debugging_of, HasBecome, IsCut}
 use Rattle.vm_debug.proofs.OnBoards.{come_to, does_one_more, text_behind, nothing_done, no_rise, rises_on}
+use Rattle.mb_report.proofs.BufferLemmas.{grows_nothing}
 
 -- They were, and the sink took their lines.
 pub record Carried (bound : ℕ) (commands : List Command) (s t : Scene) (breaks later : List ℕ) (o p : Option (List ℕ)) (f g : ℕ) : Type 0 where
@@ -19,10 +19,6 @@ pub record Carried (bound : ℕ) (commands : List Command) (s t : Scene) (breaks
   pub prints : Printed o p f g (printed (course_of s) bound commands (debugging_of s breaks))
   pub few : t.guest.steps ≤ bound
   pub native : RisesByAtMost s.guest.steps t.guest.steps s.native t.native
-
-grows_nothing : (o : Option (List ℕ)) → Grows o o []
-grows_nothing None = refl
-grows_nothing (Some bytes) = ap (λ (xs : List ℕ). Some xs) (sym (append-nil bytes))
 
 pub carried_none : (bound : ℕ) (s : Scene) (breaks : List ℕ) (o : Option (List ℕ)) (f : ℕ) → s.guest.steps ≤ bound → IsSeated s.guest s.ram
     → Carried bound [] s s breaks breaks o o f f

@@ -1,5 +1,5 @@
 -- A step that the board left, and that may begin again.
-use Rattle.std.proofs.Common.{◌≡◌, ◌∙◌, ◌⊎◌, ℕ, suc, ◌+◌, ◌-◌, ◌^◌, ◌≤◌, Bool, true, false, cond, ◌||◌, ◌==◌}
+use Rattle.std.proofs.Common.{◌≡◌, ◌∙◌, ◌⊎◌, ℕ, suc, ◌+◌, ◌-◌, ◌^◌, ◌≤◌, Bool, true, false, cond, ◌==◌}
 use Rattle.std.proofs.Common.{List, [], length, Option, Some, None, refl, ap, sym, subst, inl, inr, arith}
 use Rattle.mb_port.specs.Routine.{run}
 use Rattle.mb_instr.specs.declared.registers.Plain.{Plain}
@@ -48,8 +48,7 @@ use Rattle.law_turns.specs.Taking.{IsLeft, retired_seat, settled, site_of}
 use Rattle.law_turns.specs.Again.{Midway, unbegun, refilled_seat}
 use Rattle.law_turns.proofs.Refill.{again_comes_to_the_same}
 use Rattle.law_turns.proofs.Turn.{more_stays_set}
-use Rattle.law_turns.proofs.Taking.{some_read}
-use Rattle.law_turns.proofs.Again.{midway_again, midway_ahead, midway_begins, midway_ends, midway_level, midway_takes, midway_within}
+use Rattle.law_turns.proofs.Again.{midway_again, midway_ahead, midway_begins, midway_ends, midway_level, midway_takes, midway_within, class_begins}
 use Rattle.vm_guest.specs.Memory.{OnlyBetween}
 use Rattle.def_guests.specs.Classes.{assisted}
 use Rattle.vm_guest.specs.Native.{finished_by_frame, run_on, start_on, HasFrame, IsFrameOf}
@@ -58,6 +57,9 @@ use Rattle.vm_guest.specs.Stops.{with_bus_of, uncounted, BeginsAgain, IsReady, I
 use Rattle.vm_guest.proofs.Assisted.{Attempts, attempts_none}
 use Rattle.vm_guest.proofs.Runs.{MayRunOn, counted_first, counted_takes, is_left}
 use Rattle.vm_guest.proofs.Seated.{begun_seated, only_within}
+use Rattle.law_turns.proofs.Quiet.{untraced}
+use Rattle.law_held.proofs.Refills.{some_read}
+use Rattle.mb_frames.specs.declared.places.TheConstants.{LONGEST}
 
 -- ---- classes by vectors
 
@@ -109,10 +111,10 @@ stopped_by g ram native k e after counts v left ends s underway is =
     let stands = subst (λ (m : Seat). IsSeated m now) is left.seated in
     let again = subst (λ (m : Seat). AgainAs g ram native left.retired m after counts left.vector left.frame) is left.again in
     let turn = subst (λ (m : Seat). TurnAs g ram native left.retired m after counts left.vector left.frame) is left.turn in
-    let frame_is : (f : Frame) → IsFrameOf after f → left.frame ≡ f = λ f reads. same_frame left.frame f (sym (left.read_back 60 (omega arith)) ∙ reads) in
+    let frame_is : (f : Frame) → IsFrameOf after f → left.frame ≡ f = λ f reads. same_frame left.frame f (sym (left.read_back LONGEST (omega arith)) ∙ reads) in
     record {
       underway = underway;
-      frame = record { room = left.room; frame = left.frame; stands = left.read_back 60 (omega arith); lawful = left.lawful };
+      frame = record { room = left.room; frame = left.frame; stands = left.read_back LONGEST (omega arith); lawful = left.lawful };
       seated = begun_seated (uncounted s) now s.devices s.steps stands;
       ready = record { set = subst (λ (m : Seat). IsSetFor (site_of m) after.world) is left.set; goes = left.goes };
       again = λ f reads. subst (λ (n : ℕ). AgainAs g ram native left.retired (uncounted s) after counts n f) vector
@@ -145,13 +147,6 @@ none_again n cpu g e = none_by n cpu g (begun_again cpu g) e
 never_again : (script : Entries) (g : Guested) → refills_of_step script g ≡ 0 → let b = guest_begun script g in
     begun_again b.machine.cpu (bus_side b) ≡ None
 never_again script g e = let b = guest_begun script g in none_again 30 b.machine.cpu (bus_side b) e
-
-class_begins : (script : Entries) (start q : Guested) → guest_begun script start ≡ q
-    → step_class_at_first script start ≡ class_at_first (asked_of script q.machine) q.machine.cpu (bus_side q)
-class_begins script start q e = ap (λ (p : Guested). class_at_first (asked_of script p.machine) p.machine.cpu (bus_side p)) e
-
-untraced : (a b : Bool) → a ≡ false → b ≡ false → (a || b) ≡ false
-untraced a b h k = rw h (rw k refl)
 
 cases : (o : Option Guest) → (o ≡ None) ⊎ ((h : Guest) × (o ≡ Some h))
 cases None = inl refl
@@ -298,7 +293,7 @@ module _ (g s : Seat) (ram : List ℕ) (board : BoardState) (native counts : Nat
       base = stopped_by from board.world.ram counts 1 e after later v left ends s underway seat_is
 
       frame_is : (f : Frame) → IsFrameOf after f → left.frame ≡ f
-      frame_is f reads = same_frame left.frame f (sym (left.read_back 60 (omega arith)) ∙ reads)
+      frame_is f reads = same_frame left.frame f (sym (left.read_back LONGEST (omega arith)) ∙ reads)
 
       -- where it was denied a read, nothing has changed
       world_is : (f : Frame) → IsFrameOf after f → (h : Guest)

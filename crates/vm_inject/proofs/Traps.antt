@@ -12,12 +12,8 @@ use Rattle.def_processor.specs.declared.entering.Entered.TheVariants as entered
 use Rattle.def_processor.specs.Entry.{Entrance, awake, enter_of}
 use Rattle.def_processor.specs.SystemEnds.{with_registers}
 use Rattle.def_processor.specs.Raise.{Stepped, unchecked_of, raised}
-use Rattle.mb_step.proofs.Entries.{unchecked_awake}
+use Rattle.mb_step.proofs.Entries.{unchecked_awake, holding}
 use Rattle.def_runs.specs.Finishes.{finish_trap_of}
-
--- the processor with other registers
-abbrev holding : Regs → Cpu → Cpu
-holding r cpu = record cpu { regs = r }
 
 -- the registers before the instruction come back, in a processor that is awake
 before_again : (before : Plain) (cpu left : Cpu) (back : Regs) → left ≡ record cpu { regs = left.regs; stopped = false } → left.regs ≡ cpu.regs

@@ -7,26 +7,21 @@ use Rattle.std.proofs.lemmas.Bool.Decides.{nat_tests}
 use Rattle.mb_instr.specs.declared.registers.Plain.{Plain}
 use Rattle.mb_script.specs.declared.turn.Turn.{Turn}
 use Rattle.mb_model.specs.Keeping.{rule_k}
-use Rattle.def_machine.specs.Machine.{Entries, Machine, run_of, takes_steps}
+use Rattle.def_machine.specs.Machine.{Machine, run_of, takes_steps}
 use Rattle.def_runs.specs.Native.{NativeState}
-use Rattle.def_guests.specs.Turns.{Tally, Turned, turn_of, afresh}
+use Rattle.def_guests.specs.Turns.{Tally, Turned, turn_of}
 use Rattle.def_guests.specs.Rounds.{Member, Hosted, left, left_of_all, opened, closed_by, whole_turn}
 use Rattle.def_guests.proofs.ByRule.{turns_by_rule}
-use Rattle.def_guests.proofs.TurnLaws.{halted_turn, nothing_turned, turns_add, afresh_before, marks_stay_before}
+use Rattle.def_guests.proofs.TurnLaws.{halted_turn, nothing_turned, turns_add}
 use Rattle.vm_slices.specs.Counting.{AreCounted, RisesBy}
 use Rattle.vm_slices.specs.Members.{after_turn, machine_at_end, machines_of, tally_at_end}
 use Rattle.vm_slices.specs.Orders.{after_order, each_given, given, in_order, machine_given, machines_given, steps_given}
 use Rattle.vm_slices.specs.Places.{exceptions_at, marks_at, with_turn}
 use Rattle.vm_slices.proofs.Places.{counted_on, nothing_counted}
-use Rattle.vm_slices.proofs.Turns.{after_steps, left_going, left_still, steps_left, turn_steps}
+use Rattle.vm_slices.proofs.Turns.{after_steps, steps_left}
+use Rattle.def_guests.proofs.Rounds.{unmarked_turn, turn_steps, left_going, left_still}
 
 -- ---- two turns of a guest are one
-
--- marks before a turn have no part in it
-unmarked_turn : (script : Entries) (n : ℕ) (t : Turned) (m : Member) → closed_by (turn_of script n (afresh t)) m ≡ closed_by (turn_of script n t) m
-unmarked_turn script n t m =
-    ap (λ (x : Turned). closed_by x m) (sym (marks_stay_before script n t.marks t.exceptions (afresh t)))
-    ∙ ap (λ (x : Turned). closed_by (turn_of script n x) m) (afresh_before t)
 
 steps_add : (m : Member) (n k : ℕ) → after_steps (after_steps m n) k ≡ after_steps m (n + k)
 steps_add m n k =

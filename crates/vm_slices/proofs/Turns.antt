@@ -1,19 +1,20 @@
 -- A guest's turn of a round, on its board.
-use Rattle.std.proofs.Common.{◌≡◌, ◌∙◌, ℕ, zero, suc, ◌+◌, ◌-◌, ◌≤◌, min, List, [], ◌∷◌, refl, ap, sym, true, false, inl, inr, arith}
+use Rattle.std.proofs.Common.{◌≡◌, ◌∙◌, ℕ, ◌+◌, ◌-◌, ◌≤◌, min, List, [], ◌∷◌, ap, sym, inl, inr, arith}
 use Rattle.std.proofs.lemmas.Bool.{cases_Bool}
 use Rattle.def_machine.specs.Machine.{Entries, takes_steps}
 use Rattle.def_runs.specs.Marks.{trail}
 use Rattle.def_runs.specs.Native.{NativeState}
-use Rattle.def_guests.specs.Turns.{Turned, advanced, exits, turn_of}
+use Rattle.def_guests.specs.Turns.{Turned, exits, turn_of}
 use Rattle.def_guests.specs.Seats.{Seat, turned_on, Takes}
 use Rattle.def_guests.specs.Rounds.{Member, left, opened, closed_by, turn_in}
-use Rattle.def_guests.proofs.TurnLaws.{halted_turn, going_turn, nothing_turned}
+use Rattle.def_guests.proofs.TurnLaws.{halted_turn}
 use Rattle.vm_guest.specs.Turns.{scene, RisesByAtMost}
 use Rattle.vm_slices.specs.declared.host_guest.HostGuest.{HostGuest}
 use Rattle.def_guests.proofs.Counts.{exceptions_are_bounded}
 use Rattle.vm_slices.specs.Counting.{AreCounted}
 use Rattle.vm_slices.specs.Members.{after_turn}
 use Rattle.vm_slices.specs.Places.{member_of}
+use Rattle.def_guests.proofs.Rounds.{turn_steps, left_going, left_still}
 
 -- what its turn of so many steps promises is its turn of a round
 pub record HasTaken (slice : ℕ) (m k : Member) (old new : NativeState) : Type 0 where
@@ -50,31 +51,6 @@ member_taken slice steps g h x y old new is takes rises =
     }
 
 -- ---- what is left
-
-advanced_steps : (script : Entries) (t : Turned) → (advanced script t).guest.machine.steps ≡ t.guest.machine.steps + 1
-advanced_steps script t = refl
-
--- a machine that still goes has taken all steps of its turn
-pub turn_steps : (script : Entries) (n : ℕ) (t : Turned) → takes_steps (turn_of script n t).guest.machine.state ≡ true
-    → (turn_of script n t).guest.machine.steps ≡ t.guest.machine.steps + n
-turn_steps script zero t h =
-    ap (λ (x : Turned). x.guest.machine.steps) (nothing_turned script t)
-    ∙ (let e : t.guest.machine.steps ≡ t.guest.machine.steps + 0 = omega arith in e)
-turn_steps script (suc n) t h = elim (cases_Bool (takes_steps t.guest.machine.state)) [
-  | inl going ↦
-      let same = going_turn script n t going in
-      ap (λ (x : Turned). x.guest.machine.steps) same
-      ∙ turn_steps script n (advanced script t) (ap (λ (x : Turned). takes_steps x.guest.machine.state) (sym same) ∙ h)
-      ∙ (let e = advanced_steps script t in omega arith)
-  | inr still ↦
-      absurd (cc (sym still ∙ ap (λ (x : Turned). takes_steps x.guest.machine.state) (sym (halted_turn script (suc n) t still)) ∙ h))
-]
-
-pub left_going : (m : Member) → takes_steps m.guest.machine.state ≡ true → left m ≡ m.bound - m.guest.machine.steps
-left_going m h = rw h refl
-
-pub left_still : (m : Member) → takes_steps m.guest.machine.state ≡ false → left m ≡ 0
-left_still m h = rw h refl
 
 -- after a turn of so many steps
 abbrev pub after_steps : Member → ℕ → Member

@@ -1,11 +1,10 @@
 -- A text has one first fault.
-use Rattle.std.proofs.Common.{◌≡◌, ◌∙◌, ℕ, zero, suc, ◌≤◌, ◌<◌, eqb, List, [], ◌∷◌, ◌++◌, refl, ap, append_assoc, arith, inl, inr}
+use Rattle.std.proofs.Common.{◌≡◌, ℕ, zero, suc, ◌≤◌, ◌<◌, eqb, List, [], ◌∷◌, ◌++◌, refl, ap, arith, inl, inr}
 use Rattle.std.specs.Prelude.{Result, Ok, Err, pred}
 use Rattle.std.proofs.lemmas.Bool.{cases_Bool, cases_lt}
-use Rattle.mb_spelling.specs.Laws.{Begins}
 use Rattle.mb_spelling.specs.Places.{IsFirstFault, Tells, line_count, read_whole, up_to_line}
 use Rattle.mb_spelling.specs.Spelling.{Spelling}
-use Rattle.mb_spelling.proofs.Places.{reads_to_the_end}
+use Rattle.mb_spelling.proofs.Places.{reads_to_the_end, shorter}
 use Rattle.vm_snapshot.specs.Guests.{Snapshot, snapshot}
 use Rattle.vm_snapshot.specs.Laws.{FaultsAreOne}
 use Rattle.vm_snapshot.proofs.Guests.{snapshot_spells}
@@ -19,14 +18,6 @@ up_more (suc n) (suc k) (c ∷ text) le = elim (cases_Bool (eqb c 10)) [
   | inl e ↦ let later = up_more n k text (omega arith) in (later.0, rw e (ap (λ (w : List ℕ). c ∷ w) later.1))
   | inr e ↦ let later = up_more (suc n) (suc k) text le in (later.0, rw e (ap (λ (w : List ℕ). c ∷ w) later.1))
 ]
-
-shorter : {A : Type 0} (s : Spelling A) (text front y : List ℕ) → Begins s text → text ≡ front ++ y → Begins s front
-shorter s text front y h cut = record {
-  value = h.value;
-  lawful = h.lawful;
-  more = y ++ h.more;
-  written = h.written ∙ (ap (λ (w : List ℕ). w ++ h.more) cut ∙ append_assoc front y h.more);
-}
 
 not_before : {A : Type 0} (s : Spelling A) (text : List ℕ) (n m : ℕ) → IsFirstFault s n text → IsFirstFault s m text → n < m → ⊥
 not_before s text n m a b less = elim (cases_lt (line_count text) n) [

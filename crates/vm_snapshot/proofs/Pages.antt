@@ -17,6 +17,7 @@ use Rattle.mb_spelling.proofs.Hex.{number_spells, digit_spells, any_is_may, pass
 use Rattle.mb_spelling.proofs.Ranges.{ranged_spells}
 use Rattle.mb_spelling.proofs.Lists.{listed_times}
 use Rattle.vm_snapshot.specs.Pages.{is_space_letter, space_of_letter, LawfulSpace, write_space, space_letter, is_free, any_digit, fields, kept_said, fields_of, LawfulKept, write_kept, kept_line, with_kept, kept_counts, kept_lines}
+use Rattle.mb_report.specs.Kept.{space_letter as letter_of}
 
 -- ---- a page is left
 
@@ -103,17 +104,11 @@ letter_to c l =
           (let u : c ≡ 85 = (elim (or_cases _ _ l) [ inl s ↦ absurd (let contrary : true ≡ false = sym s ∙ e in cc) | inr u ↦ eqb-true c 85 u ]) in sym u))
     ]
 
-letter_of : Space → ℕ
-letter_of Super = 83
-letter_of User = 85
-
 letter_lawful : (space : Space) → is_space_letter (letter_of space) ≡ true
-unfolding letter_of
 letter_lawful Super = refl
 letter_lawful User = refl
 
 letter_back : (space : Space) → space_of_letter (letter_of space) ≡ space
-unfolding letter_of
 letter_back Super = refl
 letter_back User = refl
 

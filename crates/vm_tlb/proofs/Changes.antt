@@ -9,6 +9,7 @@ use Rattle.law_links.specs.Paths.{updated, IsPath, times}
 use Rattle.law_links.proofs.Paths.{updated_same, updated_other, one, none, times-append, last, last_in, path-kept, path-split, path-end, path-skip, path-front, path-last}
 use Rattle.vm_tlb.proofs.Paths.{before_is}
 use Rattle.vm_tlb.proofs.Paths.{chain-append, chain-here, chain-elsewhere, times-elsewhere, times-chain, chain-kept}
+use Rattle.law_links.proofs.Paths.{newer_in}
 
 -- each node is there once, and there are no others
 pub counts : (live free : List ℕ) → ((at : ℕ) → times at live + times at free ≡ cond (nat_lt at 256) 1 0) → (at : ℕ)
@@ -196,24 +197,6 @@ module _ (newer older next of : ℕ → ℕ) (xs : List ℕ) (x : ℕ) (ys free 
     each = λ at. omega (arith, linked.each at, times-append at xs ys, times-append at xs (x ∷ ys));
     all = omega (arith, linked.all, length-append xs ys, length-append xs (x ∷ ys));
   }
-
-first_step : (f : ℕ → ℕ) (from : ℕ) (xs : List ℕ) (to at : ℕ) → from ≡ at → IsPath f from xs to → 0 < times (f at) (to ∷ xs)
-first_step f from [] to at e p = omega (arith, one to (f at) (sym p ∙ ap f e))
-first_step f from (x ∷ xs) to at e p = omega (arith, one x (f at) (sym p.0 ∙ ap f e))
-
-later_step : (f : ℕ → ℕ) (from : ℕ) (xs : List ℕ) (to at : ℕ) → 0 < times at xs → IsPath f from xs to → 0 < times (f at) (to ∷ xs)
-later_step f from [] to at h p = absurd (omega (arith, h))
-later_step f from (x ∷ xs) to at h p = elim (cases_eq x at) [
-  | inl e ↦ omega (arith, first_step f x xs to at e p.1)
-  | inr d ↦ omega (arith, later_step f x xs to at (omega (arith, h, none x at d)) p.1)
-]
-
--- where a path leads from one of its places
-newer_in : (f : ℕ → ℕ) (from : ℕ) (xs : List ℕ) (to at : ℕ) → 0 < times at (from ∷ xs) → IsPath f from xs to → 0 < times (f at) (to ∷ xs)
-newer_in f from xs to at h p = elim (cases_eq from at) [
-  | inl e ↦ first_step f from xs to at e p
-  | inr d ↦ later_step f from xs to at (omega (arith, h, none from at d)) p
-]
 
 -- what is in the ring or its root is at most 256
 pub ring_low : (newer older next of : ℕ → ℕ) (live free : List ℕ) (linked : Linked newer older next of live free) (at : ℕ) → 0 < times at (256 ∷ live)

@@ -1,36 +1,19 @@
 -- The entry of a page, found in its chain.
-use Rattle.std.proofs.Common.{◌≡◌, ◌≢◌, ◌∙◌, ℕ, ◌<◌, ◌==◌, ◌&&◌, Bool, true, false, List, [], ◌∷◌, ◌++◌, map}
+use Rattle.std.proofs.Common.{◌≡◌, ◌≢◌, ◌∙◌, ℕ, ◌<◌, Bool, true, false, List, [], ◌∷◌, ◌++◌, map}
 use Rattle.std.proofs.Common.{ap, sym, subst, refl, arith, inl, inr}
 use Rattle.std.specs.Prelude.{Some, None}
 use Rattle.std.specs.List.{find, list_any}
-use Rattle.std.proofs.lemmas.Bool.{cases_eq, cases_Bool, false≢true}
-use Rattle.std.proofs.lemmas.Bool.Decides.{nat_tests}
+use Rattle.std.proofs.lemmas.Bool.{cases_eq, cases_Bool}
 use Rattle.std.proofs.lemmas.Option.{none-some}
 use Rattle.mb_port.specs.declared.types.Space.{Space}
-use Rattle.mb_port.specs.declared.types.Space.TheVariants.{User, Super}
 use Rattle.mb_model.specs.declared.kept.Kept.{Kept}
-use Rattle.mb_model.specs.Keeping.{same_space, is_of, entry_in, without, Apart}
+use Rattle.mb_model.specs.Keeping.{is_of, entry_in, without, Apart}
 use Rattle.vm_tlb.specs.Chains.{chain, first_of}
 use Rattle.law_links.specs.Paths.{times}
 use Rattle.vm_tlb.specs.Links.{chain_of, number_of}
 use Rattle.vm_tlb.proofs.Paths.{times-here, times-chain}
 use Rattle.law_links.proofs.Paths.{one, none, times-append}
-
-same_space-is : (a b : Space) → same_space a b ≡ true → a ≡ b
-same_space-is User User h = refl
-same_space-is User Super h = absurd (false≢true h)
-same_space-is Super User h = absurd (false≢true h)
-same_space-is Super Super h = refl
-
-both : (a b : Bool) → (a && b) ≡ true → (a ≡ true) × (b ≡ true)
-both true true h = (refl, refl)
-both true false h = absurd (false≢true h)
-both false b h = absurd (false≢true h)
-
-pub is_of-same : (space : Space) (page : ℕ) (k : Kept) → is_of space page k ≡ true → (k.space ≡ space) × (k.page ≡ page)
-is_of-same space page k h =
-    let parts = both (same_space k.space space) (k.page == page) h in
-    (same_space-is k.space space parts.0, let e = parts.1 in grind (arith, nat_tests))
+use Rattle.mb_model.proofs.ApartLemmas.{is_of-same}
 
 -- the first place that passes
 pub first-none : (p : ℕ → Bool) (xs : List ℕ) → ((k : ℕ) → 0 < times k xs → k < 256) → first_of p xs ≡ 256 → (k : ℕ) → 0 < times k xs → p k ≡ false

@@ -15,7 +15,8 @@ use Rattle.law_links.specs.Paths.{IsPath, walk, times}
 use Rattle.vm_tlb.specs.Links.{Links, number_of, order, vacant, entries, IsLinked}
 use Rattle.law_links.proofs.Paths.{one, none, times-append, last, path-split, path-end, path-walk}
 use Rattle.vm_tlb.proofs.Changes.{inside}
-use Rattle.vm_tlb.proofs.Finding.{is_of-same, one_of}
+use Rattle.vm_tlb.proofs.Finding.{one_of}
+use Rattle.mb_model.proofs.ApartLemmas.{is_of-same}
 
 module _ (space : Space) (page : ℕ) (what : Flush) (of_page : (k : Kept) → covers what k ≡ true → is_of space page k ≡ true) where
   pub flush_none : (ks : List Kept) → entry_in space page ks ≡ None → flushed_in what ks ≡ ks
