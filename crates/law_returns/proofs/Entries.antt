@@ -24,18 +24,19 @@ use Rattle.law_returns.specs.Keeping.{Placing, Viewing, IsKept, Keeps}
 use Rattle.law_returns.specs.Returns.{AreApart, IsSeen, SecondIsSeen, AreSeen, EntryIsSeen}
 use Rattle.law_returns.proofs.Bytes.{frame_is_bytes}
 use Rattle.law_returns.proofs.Puts.{AreAt, cut_addressed, still_at, probes, puts, read_keeps}
+use Rattle.mb_frames.specs.declared.places.TheConstants.{LONGEST}
 
 -- a frame as the code has it
 pub record IsFrameOn (s : Stacked) : Type 0 where
   pub at : s.at < 2 ^ 32
-  pub few : length s.bytes ≤ 60
+  pub few : length s.bytes ≤ LONGEST
   pub bytes : (k : ℕ) → slice_index s.bytes k < 2 ^ 8
 
 abbrev pub SecondIsFrame : Option Stacked → Type 0
 SecondIsFrame None = Unit {0}
 SecondIsFrame (Some s) = IsFrameOn s
 
-frame_length-few : (f : Frame) → frame_length (format_of f) ≤ 60
+frame_length-few : (f : Frame) → frame_length (format_of f) ≤ LONGEST
 frame_length-few f = grind arith
 
 is_frame : (f : Frame) (top : ℕ) → IsFrameOn (stacked f top)

@@ -13,6 +13,7 @@ use Rattle.def_processor.specs.Return.{read_longs_of, access_of_longs, high, low
 use Rattle.law_returns.specs.Keeping.{Placing, Viewing, Shows, Keeps}
 use Rattle.law_returns.proofs.Numbers.{two_parts, from_place}
 use Rattle.law_returns.proofs.Readings.{Gives, followed, at_once, shown_still, shown_behind, reads}
+use Rattle.mb_frames.specs.declared.places.TheConstants.{LONGS}
 
 -- so many longs, one after the other
 pub longs_in : ℕ → List ℕ → List ℕ
@@ -58,7 +59,7 @@ halves b k bytes =
     (omega arith, omega arith)
 
 -- longs that stand where the frame has them hold its fields
-among : (b longs : List ℕ) → ((i : ℕ) → slice_index b i < 256) → ((i : ℕ) → i < 13 → slice_index longs i ≡ long_at b (8 + 4 * i))
+among : (b longs : List ℕ) → ((i : ℕ) → slice_index b i < 256) → ((i : ℕ) → i < LONGS → slice_index longs i ≡ long_at b (8 + 4 * i))
     → access_of_longs longs ≡ access_in b
 unfolding access_of_longs
 among b longs bytes h =
@@ -81,7 +82,7 @@ among b longs bytes h =
     let pd3 : slice_index longs 12 ≡ long_at b 0x38 = h 12 (omega arith) in
     cc
 
-pub fields_among : (b : List ℕ) → ((i : ℕ) → slice_index b i < 256) → access_of_longs (longs_in 13 (drop 8 b)) ≡ access_in b
+pub fields_among : (b : List ℕ) → ((i : ℕ) → slice_index b i < 256) → access_of_longs (longs_in LONGS (drop 8 b)) ≡ access_in b
 unfolding long_at
 fields_among b bytes =
-    among b (longs_in 13 (drop 8 b)) bytes (λ i l. long_in 13 (drop 8 b) i l ∙ ap (big_number 4) (drop-drop (4 * i) 8 b))
+    among b (longs_in LONGS (drop 8 b)) bytes (λ i l. long_in LONGS (drop 8 b) i l ∙ ap (big_number 4) (drop-drop (4 * i) 8 b))

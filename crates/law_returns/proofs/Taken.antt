@@ -24,6 +24,7 @@ use Rattle.law_returns.proofs.Longs.{longs_in, reads_longs, fields_among}
 use Rattle.law_returns.proofs.Heads.{sr_of, pc_of, head_from, reads_head, fields_of_frame}
 use Rattle.law_returns.proofs.Status.{master_supervised, master_masked, master_without, thrown_supervisor, thrown_master}
 use Rattle.law_returns.proofs.Bytes.{frame_is_bytes}
+use Rattle.mb_frames.specs.declared.places.TheConstants.{LONGEST, LONGS}
 
 -- the frames by which RTE returns, and the fields that they have
 abbrev Returns : Frame → Type 0
@@ -82,19 +83,19 @@ module _ (S : Type 0) (bus : Bus S) (place : Placing S) (view : Viewing S) (keep
   frame_given (frame.Access sr pc offset a) r s is lawful can h =
       let f = frame.Access sr pc offset a in
       let b = frame_bytes f in
-      let count : length b ≡ 60 = length-frame_bytes f in
+      let count : length b ≡ LONGEST = length-frame_bytes f in
       let top = active_stack r in
       let back = restore_of 7 (head_from f) r in
-      let longs = longs_in 13 (drop 8 b) in
-      let behind : Shows (view s) (sum top 8) 52 (drop 8 b) = λ k l. shown_behind (view s) top (length b) 8 b (omega arith) h k (omega arith) in
-      let read = not_refused (read_longs_of 13 (sum top 8) []) s longs
-      (reads_longs S bus place view keeps 13 (sum top 8) [] (drop 8 b) s (omega arith) behind) in
+      let longs = longs_in LONGS (drop 8 b) in
+      let behind : Shows (view s) (sum top 8) (4 * LONGS) (drop 8 b) = λ k l. shown_behind (view s) top (length b) 8 b (omega arith) h k (omega arith) in
+      let read = not_refused (read_longs_of LONGS (sum top 8) []) s longs
+      (reads_longs S bus place view keeps LONGS (sum top 8) [] (drop 8 b) s (omega arith) behind) in
       let fields : access_of_longs longs ≡ a = fields_among b (frame_is_bytes f) ∙ fields_of_frame sr pc offset a lawful in
       let judgement : access_or_format_error (access_of_longs longs) back ≡ Ok (record { regs = back; access = Some a }) =
       ap (λ (x : Access). access_or_format_error x back) fields ∙ judged_by (continues a) (can_continue a) _ _ can in
       let next : Result (List ℕ) Ended → Routine (Result Taken Ended) = λ q. tried q (λ longs. Return (access_or_format_error (access_of_longs longs) back)) in
-      followed bus place view (read_or_end (read_longs_of 13 (sum top 8) [])) next s (Ok longs) _ read
-      (subst (λ (x : Result Taken Ended). Gives bus place view (next (Ok longs)) (run bus (read_or_end (read_longs_of 13 (sum top 8) [])) s).1 x)
+      followed bus place view (read_or_end (read_longs_of LONGS (sum top 8) [])) next s (Ok longs) _ read
+      (subst (λ (x : Result Taken Ended). Gives bus place view (next (Ok longs)) (run bus (read_or_end (read_longs_of LONGS (sum top 8) [])) s).1 x)
       judgement (at_once bus place view _ (access_or_format_error (access_of_longs longs) back)))
 
   -- one frame
@@ -143,11 +144,11 @@ module _ (S : Type 0) (bus : Bus S) (place : Placing S) (view : Viewing S) (keep
 abbrev back_to : Regs → ℕ → Regs → Regs
 back_to before pc r = record r { sr = before.sr; pc = pc; isp = before.isp; msp = before.msp }
 
-up_again : (top n : ℕ) → top < 2 ^ 32 → n ≤ 60 → ((top + (2 ^ 32 - n)) % 2 ^ 32 + n) % 2 ^ 32 ≡ top
+up_again : (top n : ℕ) → top < 2 ^ 32 → n ≤ LONGEST → ((top + (2 ^ 32 - n)) % 2 ^ 32 + n) % 2 ^ 32 ≡ top
 up_again top n h k = omega arith
 
 from_master : (format n pc : ℕ) (head : Head) (before r : Regs) → is_supervisor r.sr ≡ true → is_master r.sr ≡ true
-    → frame_length format ≡ n → n ≤ 60 → before.msp < 2 ^ 32 → head.sr ≡ before.sr → head.pc ≡ pc
+    → frame_length format ≡ n → n ≤ LONGEST → before.msp < 2 ^ 32 → head.sr ≡ before.sr → head.pc ≡ pc
     → r.isp ≡ before.isp → r.msp ≡ difference before.msp n → restore_of format head r ≡ back_to before pc r
 from_master format n pc head before r s m len few small sr at isp msp =
     let top : sum r.msp (frame_length format) ≡ before.msp = ap (λ (x : ℕ). sum x (frame_length format)) msp
@@ -155,7 +156,7 @@ from_master format n pc head before r s m len few small sr at isp msp =
     rw (s, m, top, sr, at, isp) refl
 
 from_interrupt : (format n pc : ℕ) (head : Head) (before r : Regs) → is_supervisor r.sr ≡ true → is_master r.sr ≡ false
-    → frame_length format ≡ n → n ≤ 60 → before.isp < 2 ^ 32 → head.sr ≡ before.sr → head.pc ≡ pc
+    → frame_length format ≡ n → n ≤ LONGEST → before.isp < 2 ^ 32 → head.sr ≡ before.sr → head.pc ≡ pc
     → r.msp ≡ before.msp → r.isp ≡ difference before.isp n → restore_of format head r ≡ back_to before pc r
 from_interrupt format n pc head before r s m len few small sr at msp isp =
     let top : sum r.isp (frame_length format) ≡ before.isp = ap (λ (x : ℕ). sum x (frame_length format)) isp
@@ -189,8 +190,8 @@ one_status : (i m : Bool) (level sr : ℕ) → level < 8 → is_master sr ≡ m 
 one_status true m level sr small h = master_masked level (supervised sr) small ∙ master_supervised sr ∙ h
 one_status false m level sr small h = master_supervised sr ∙ h
 
-few_bytes : (f : Frame) → length (frame_bytes f) ≤ 60
-few_bytes f = let e = length-frame_bytes f in let h : frame_length (format_of f) ≤ 60 = grind arith in omega arith
+few_bytes : (f : Frame) → length (frame_bytes f) ≤ LONGEST
+few_bytes f = let e = length-frame_bytes f in let h : frame_length (format_of f) ≤ LONGEST = grind arith in omega arith
 
 module _ (S : Type 0) (bus : Bus S) (place : Placing S) (view : Viewing S) (keeps : Keeps bus place view) (c : Cause) (cpu back : Cpu)
     (lawful : IsLawfulCause c cpu) (can : CanReturn c.access) where

@@ -22,6 +22,7 @@ use Rattle.law_turns.proofs.Retire.{retired_steps, runs_behind, stays_on}
 use Rattle.law_turns.proofs.Exit.{left_steps}
 use Rattle.law_turns.proofs.Refill.{first_is_last}
 use Rattle.def_guests.proofs.Trails.{trail_append}
+use Rattle.mb_frames.specs.declared.places.TheConstants.{LONGEST}
 
 -- ---- one step of the board's run
 
@@ -82,7 +83,7 @@ stays_furnished x script m g s t h f = record {
   status = same_word s.1.cpu.regs.sr m.cpu.regs.sr h.from.upper f.status;
   master = h.from.master ∙ f.master;
   vectors = h.from.vbr ∙ f.vectors;
-  stack = subst (λ (n : ℕ). 60 ≤ n) (sym h.from.isp) f.stack;
+  stack = subst (λ (n : ℕ). LONGEST ≤ n) (sym h.from.isp) f.stack;
   below = subst (λ (n : ℕ). n ≤ x.base) (sym h.from.isp) f.below;
   table = f.table;
   small = subst (λ (n : ℕ). n ≤ 2 ^ 32) (sym h.outside.count) f.small;

@@ -12,8 +12,9 @@ use Rattle.def_processor.specs.Entry.{frames_of, frame_of}
 use Rattle.def_machine.specs.World.{World}
 use Rattle.def_machine.specs.Enters.{HasRoom}
 use Rattle.def_processor.specs.Return.{low}
+use Rattle.mb_frames.specs.declared.places.TheConstants.{LONGEST}
 
-pub by_format : (f : Frame) → length (frame_bytes f) ≤ 60
+pub by_format : (f : Frame) → length (frame_bytes f) ≤ LONGEST
 by_format (frame.Short sr pc offset) = let h = length-frame_bytes (frame.Short sr pc offset) in omega arith
 by_format (frame.Throwaway sr pc offset) = let h = length-frame_bytes (frame.Throwaway sr pc offset) in omega arith
 by_format (frame.Address sr pc offset address) = let h = length-frame_bytes (frame.Address sr pc offset address) in omega arith
@@ -25,12 +26,13 @@ pub record OnStack (c : Cause) (cpu : Cpu) (top : ℕ) : Type 0 where
   pub bytes : (frames_of c cpu.regs).first.bytes ≡ frame_bytes (frame_of cpu.regs.sr c)
   pub ends : (frames_of c cpu.regs).first.at + length (frames_of c cpu.regs).first.bytes ≡ top
 
-pub on_stack : (c : Cause) (cpu : Cpu) → c.level ≡ 0 → is_master cpu.regs.sr ≡ false → 60 ≤ cpu.regs.isp → cpu.regs.isp < 2 ^ 32 → OnStack c cpu cpu.regs.isp
+pub on_stack : (c : Cause) (cpu : Cpu) → c.level ≡ 0 → is_master cpu.regs.sr ≡ false → LONGEST ≤ cpu.regs.isp → cpu.regs.isp < 2 ^ 32
+    → OnStack c cpu cpu.regs.isp
 unfolding frames_of
 on_stack c cpu level master room small =
     let f = frame_of cpu.regs.sr c in
     let n = length (frame_bytes f) in
-    let least : n ≤ 60 = by_format f in
+    let least : n ≤ LONGEST = by_format f in
     record {
       one = rw level refl;
       bytes = refl;
@@ -38,7 +40,7 @@ on_stack c cpu level master room small =
           ∙ (let e : difference cpu.regs.isp n + n ≡ cpu.regs.isp = omega arith in e);
     }
 
-pub has_room : (b : World) (c : Cause) (cpu : Cpu) → c.level ≡ 0 → is_master cpu.regs.sr ≡ false → 60 ≤ cpu.regs.isp → cpu.regs.isp < 2 ^ 32
+pub has_room : (b : World) (c : Cause) (cpu : Cpu) → c.level ≡ 0 → is_master cpu.regs.sr ≡ false → LONGEST ≤ cpu.regs.isp → cpu.regs.isp < 2 ^ 32
     → cpu.regs.isp ≤ length b.ram → length b.ram ≤ 2 ^ 32 → cpu.vbr ≡ 0 → c.vector < 256 → 1024 ≤ length b.ram → HasRoom b c cpu
 has_room b c cpu level master room low inside small vbr vector table =
     let s = on_stack c cpu level master room low in

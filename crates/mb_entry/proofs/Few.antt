@@ -1,6 +1,8 @@
 -- How many pieces a frame has.
 use Rattle.std.proofs.Common.{◌≡◌, ℕ, zero, suc, ◌+◌, ◌-◌, ◌*◌, ◌%◌, ◌^◌, ◌<◌, ◌≤◌, ◌⊎◌, inl, inr, length, arith}
 use Rattle.mb_port.specs.Pieces.{piece_len, cut}
+use Rattle.mb_frames.specs.declared.places.TheConstants.{LONGEST}
+use Rattle.mb_entry.specs.declared.places.TheConstants.{MOST_PIECES}
 
 piece_some : (at left : ℕ) → 0 < left → 0 < piece_len at left
 piece_some at left h = grind arith
@@ -80,9 +82,9 @@ odd_few (suc n) at (suc left) h =
 halves : (at : ℕ) → (at % 2 ≡ 0) ⊎ (at % 2 ≡ 1)
 halves at = grind arith
 
--- a frame has at most sixty bytes, and so at most seventeen pieces
-pub at_most_seventeen : (n at left : ℕ) → left ≤ 60 → length (cut n at left) ≤ 17
-at_most_seventeen n at left h =
+-- a frame has no more bytes than the longest, and so few pieces
+pub few_pieces : (n at left : ℕ) → left ≤ LONGEST → length (cut n at left) ≤ MOST_PIECES
+few_pieces n at left h =
     elim (halves at) [
       | inl even ↦ let few = even_any n at left even in omega arith
       | inr odd ↦ let few = odd_few n at left odd in omega arith

@@ -12,10 +12,11 @@ ghost use Rattle.mb_entry.specs.Places.{places_seen, placed, Covers};
 use crate::stacking::{Frames, Stacked};
 use arrayvec::ArrayVec;
 use byteorder::{BigEndian, ByteOrder};
+use mb_frames::LONGEST;
 use mb_port::{Fault, Place, Port, Space, first_piece};
 
-/// The most pieces of a frame: of the sixty bytes of an access error's, at an odd place.
-const MOST_PIECES: usize = 17;
+/// The most pieces of a frame: of the longest, at an odd place.
+const MOST_PIECES: usize = LONGEST / 4 + 2;
 
 /// Where the frames of an exception stand.
 #[derive(Drop)]
@@ -31,7 +32,7 @@ fn probe_bytes<P: Port>(
     places: &mut ArrayVec<Place, MOST_PIECES>,
     port: &mut P,
 ) -> Result<(), Fault>
-    requires room { length places.old.items + length (cut len at len) ≤ 17 }
+    requires room { length places.old.items + length (cut len at len) ≤ MOST_PIECES }
     requires open { All (IsOpen (P.exists (P.rest port.old))) places.old.items }
     ensures means { run P.bus (probe_pieces_of Space.Super (cut len at len) places.old.items) (P.world port.old)
         ≡ (probed result places.new.items, P.world port.new) }
@@ -51,7 +52,7 @@ fn probe_bytes<P: Port>(
 }
 
 /// Checks a frame for writing. The answer is where its pieces stand.
-#[tactic(auto, using(crate::proofs::Few::at_most_seventeen))]
+#[tactic(auto, using(crate::proofs::Few::few_pieces))]
 fn probe_frame<P: Port>(
     frame: &Stacked,
     port: &mut P,

@@ -12,7 +12,7 @@ ghost use Rattle.mb_entry.specs.Clauses.{NotTaken};
 use arrayvec::ArrayVec;
 use mb_decode::{Decoded, decode};
 use mb_ea::{ReadFault, read_value};
-use mb_frames::{Access, CM, FIELDS_PLACE, FORMAT_PLACE, LONGEST, PC_PLACE, SR_PLACE};
+use mb_frames::{Access, CM, FIELDS_PLACE, FORMAT_PLACE, LONGEST, LONGS, PC_PLACE, SR_PLACE};
 use mb_instr::vectors::FORMAT_ERROR;
 use mb_instr::{Instr, Move, Regs, Size};
 use mb_model::kept_status;
@@ -27,9 +27,6 @@ const THROWAWAY: u8 = 1;
 const ADDRESS: u8 = 2;
 
 const ACCESS: u8 = 7;
-
-/// The longs of an access error's fields.
-const LONGS: usize = 13;
 
 /// What every frame begins with.
 #[derive(Clone, Copy)]
@@ -95,7 +92,7 @@ fn low(long: u32) -> u16
 /// The fields of an access error in their longs.
 #[tactic(auto, unfolding(def_processor::specs::Return::access_of_longs))]
 fn access_from(longs: &[u32]) -> Access
-    requires { length longs.now ≡ 13 }
+    requires { length longs.now ≡ LONGS }
     ensures { result ≡ access_of_longs longs.now }
 {
     Access {

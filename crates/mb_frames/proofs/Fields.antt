@@ -31,6 +31,13 @@ length-bytes_of_fields (f ∷ fs) =
     ∙ ap (λ (n : ℕ). n + length (bytes_of_fields fs)) (length-bytes_high_first f.size f.value)
     ∙ ap (λ (n : ℕ). f.size + n) (length-bytes_of_fields fs)
 
+-- the bytes of fields behind others
+pub bytes_of_both : (fs gs : List Field) → bytes_of_fields (fs ++ gs) ≡ bytes_of_fields fs ++ bytes_of_fields gs
+bytes_of_both [] gs = refl
+bytes_of_both (f ∷ fs) gs =
+    ap (λ (b : List ℕ). big_bytes f.size f.value ++ b) (bytes_of_both fs gs)
+    ∙ sym (append_assoc (big_bytes f.size f.value) (bytes_of_fields fs) (bytes_of_fields gs))
+
 -- where the bytes of the fields stand, each field stands
 pub fields_stand : (b : List ℕ) (fs : List Field) (place : ℕ) (rest : List ℕ) → AreAdjacent place fs
     → drop place b ≡ bytes_of_fields fs ++ rest → AllByRecursion (StandsIn b) fs

@@ -11,6 +11,7 @@ use Rattle.mb_frames.specs.declared.frame.Frame.TheVariants as frame
 use Rattle.mb_frames.specs.Layout.{BeginsWith, Fits, IsFrame, StandsIn, bytes_of_fields, fields_of, fields_of_access, format_of, frame_bytes, frame_length, long_field, vector_offset_of, word_field}
 use Rattle.mb_frames.specs.Reading.{access_in, format_in, frame_in, frame_of_format, long_at, offset_in, word_at}
 use Rattle.mb_frames.proofs.Fields.{AreAdjacent, ReadsAs, fields_read, fields_stand, fields_written, length-bytes_of_fields, size_of}
+use Rattle.mb_frames.specs.declared.places.TheConstants.{LONGEST}
 
 word-read : (b : List ℕ) (place value : ℕ) → ReadsAs b (word_field place value) → word_at b place ≡ value
 unfolding word_at
@@ -128,7 +129,7 @@ address-written b e room bytes =
     frame_bytes-read b (frame.Address (word_at b 0) (long_at b 2) (offset_in b) (long_at b 8)) room bytes
     (refl, (refl, (format_word (word_at b 6) 2 e, (refl, tt))))
 
-access-written : (b : List ℕ) → format_in b ≡ 7 → 60 ≤ length b → ((i : ℕ) → slice_index b i < 256)
+access-written : (b : List ℕ) → format_in b ≡ 7 → LONGEST ≤ length b → ((i : ℕ) → slice_index b i < 256)
     → BeginsWith b (frame.Access (word_at b 0) (long_at b 2) (offset_in b) (access_in b))
 unfolding word_at long_at
 access-written b e room bytes =

@@ -1,5 +1,5 @@
 -- The fields of a frame in order, and its bytes.
-use Rattle.std.specs.Prelude.{◌≡◌, ◌<◌, ◌⊎◌, ◌==◌, if◌then◌else◌, ℕ, ◌+◌, ◌*◌, ◌^◌, ◌++◌, List, [], ◌∷◌, length, take, drop, All}
+use Rattle.std.specs.Prelude.{◌≡◌, ◌<◌, ◌⊎◌, ◌==◌, if◌then◌else◌, ℕ, ◌+◌, ◌*◌, ◌^◌, ◌++◌, List, [], ◌∷◌, length, map, take, drop, All}
 use Rattle.byteorder.specs.Endian.{big_bytes}
 use Rattle.mb_frames.specs.declared.frame.Access.{Access}
 use Rattle.mb_frames.specs.declared.frame.Frame.{Frame}
@@ -23,16 +23,40 @@ abbrev pub head : (sr pc format offset : ℕ) → List Field
 head sr pc format offset =
     word_field SR_PLACE sr ∷ long_field PC_PLACE pc ∷ word_field FORMAT_PLACE (format * 0x1000 + offset) ∷ []
 
+-- a field of an access error: its place in the frame, how many bytes it has, its value among the fields, and the
+-- fields with another value of it
+pub record AccessField : Type 0 where
+  pub offset : ℕ
+  pub size : ℕ
+  pub value : Access → ℕ
+  pub with_value : ℕ → Access → Access
+
+abbrev pub of_access : (offset size : ℕ) → (Access → ℕ) → (ℕ → Access → Access) → AccessField
+of_access offset size value with_value =
+    record { offset = offset; size = size; value = value; with_value = with_value }
+
+-- the table of an access error's fields: a line a field, in the order of the frame
+abbrev pub access_table : List AccessField
+access_table =
+    of_access 0x08 4 (λ a. a.ea) (λ n a. record a { ea = n })
+    ∷ of_access 0x0C 2 (λ a. a.ssw) (λ n a. record a { ssw = n })
+    ∷ of_access 0x0E 2 (λ a. a.wb3s) (λ n a. record a { wb3s = n })
+    ∷ of_access 0x10 2 (λ a. a.wb2s) (λ n a. record a { wb2s = n })
+    ∷ of_access 0x12 2 (λ a. a.wb1s) (λ n a. record a { wb1s = n })
+    ∷ of_access 0x14 4 (λ a. a.fa) (λ n a. record a { fa = n })
+    ∷ of_access 0x18 4 (λ a. a.wb3a) (λ n a. record a { wb3a = n })
+    ∷ of_access 0x1C 4 (λ a. a.wb3d) (λ n a. record a { wb3d = n })
+    ∷ of_access 0x20 4 (λ a. a.wb2a) (λ n a. record a { wb2a = n })
+    ∷ of_access 0x24 4 (λ a. a.wb2d) (λ n a. record a { wb2d = n })
+    ∷ of_access 0x28 4 (λ a. a.wb1a) (λ n a. record a { wb1a = n })
+    ∷ of_access 0x2C 4 (λ a. a.wb1d) (λ n a. record a { wb1d = n })
+    ∷ of_access 0x30 4 (λ a. a.pd1) (λ n a. record a { pd1 = n })
+    ∷ of_access 0x34 4 (λ a. a.pd2) (λ n a. record a { pd2 = n })
+    ∷ of_access 0x38 4 (λ a. a.pd3) (λ n a. record a { pd3 = n }) ∷ []
+
 -- what the frame of an access error has besides
 abbrev pub fields_of_access : Access → List Field
-fields_of_access a =
-    long_field 0x08 a.ea ∷ word_field 0x0C a.ssw
-    ∷ word_field 0x0E a.wb3s ∷ word_field 0x10 a.wb2s ∷ word_field 0x12 a.wb1s
-    ∷ long_field 0x14 a.fa
-    ∷ long_field 0x18 a.wb3a ∷ long_field 0x1C a.wb3d
-    ∷ long_field 0x20 a.wb2a ∷ long_field 0x24 a.wb2d
-    ∷ long_field 0x28 a.wb1a ∷ long_field 0x2C a.wb1d
-    ∷ long_field 0x30 a.pd1 ∷ long_field 0x34 a.pd2 ∷ long_field 0x38 a.pd3 ∷ []
+fields_of_access a = map (λ f. record { offset = f.offset; size = f.size; value = f.value a }) access_table
 
 -- the format number of a frame
 abbrev pub format_of : Frame → ℕ

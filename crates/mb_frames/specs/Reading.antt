@@ -1,10 +1,11 @@
 -- The frame that stands at the beginning of bytes.
-use Rattle.std.specs.Prelude.{ℕ, ◌/◌, ◌%◌, ◌==◌, nat_le, if◌then◌else◌, Option, Some, None, List, length, drop}
+use Rattle.std.specs.Prelude.{ℕ, ◌/◌, ◌%◌, ◌==◌, nat_le, if◌then◌else◌, Option, Some, None, List, [], ◌∷◌, length, drop}
 use Rattle.byteorder.specs.Endian.{big_number}
 use Rattle.mb_frames.specs.declared.frame.Access.{Access}
 use Rattle.mb_frames.specs.declared.frame.Frame.{Frame}
 use Rattle.mb_frames.specs.declared.frame.Frame.TheVariants as frame
-use Rattle.mb_frames.specs.Layout.{frame_length}
+use Rattle.mb_frames.specs.Layout.{AccessField, access_table, frame_length}
+use Rattle.mb_frames.specs.AccessFields.{no_fields}
 use Rattle.mb_frames.specs.declared.places.TheConstants.{SR_PLACE, PC_PLACE, FORMAT_PLACE, FIELDS_PLACE}
 
 -- the word, and the long, at a place
@@ -25,26 +26,16 @@ format_in b = format_of_word (word_at b FORMAT_PLACE)
 abbrev pub offset_in : List ℕ → ℕ
 offset_in b = word_at b FORMAT_PLACE % 0x1000
 
+-- the fields of a part of the table, the others as they were
+abbrev pub with_fields : (word long : ℕ → ℕ) → List AccessField → Access → Access
+with_fields word long [] a = a
+with_fields word long (f ∷ fs) a =
+    with_fields word long fs (f.with_value (if f.size == 2 then word f.offset else long f.offset) a)
+
 -- The fields of an access error, by what the word and the long at each place of its frame are. Whoever reads them
 -- reads them by this.
 abbrev pub access_by : (word long : ℕ → ℕ) → Access
-access_by word long = record {
-  ea = long 0x08;
-  ssw = word 0x0C;
-  wb3s = word 0x0E;
-  wb2s = word 0x10;
-  wb1s = word 0x12;
-  fa = long 0x14;
-  wb3a = long 0x18;
-  wb3d = long 0x1C;
-  wb2a = long 0x20;
-  wb2d = long 0x24;
-  wb1a = long 0x28;
-  wb1d = long 0x2C;
-  pd1 = long 0x30;
-  pd2 = long 0x34;
-  pd3 = long 0x38;
-}
+access_by word long = with_fields word long access_table no_fields
 
 -- those that bytes hold
 abbrev pub access_in : List ℕ → Access

@@ -1,12 +1,12 @@
 -- Frames of access errors that were worked out by hand, each by its fields that are not 0. Pages have 4 KiB where
 -- nothing else is said.
-use Rattle.std.specs.Prelude.{◌≡◌, ℕ, Bool, true, false, [], ◌∷◌, map, replicate}
+use Rattle.std.specs.Prelude.{◌≡◌, ℕ, Bool, true, false, [], ◌∷◌, length, map, replicate}
 use Rattle.mb_port.specs.declared.types.Space.{Space}
 use Rattle.mb_port.specs.declared.types.Space.TheVariants.{Super, User}
 use Rattle.mb_port.specs.declared.types.Fault.{Fault}
 use Rattle.mb_frames.specs.declared.pend.Pend.{Pend}
 use Rattle.mb_frames.specs.AccessFields.{Check, Line, Movem, Read, Write, access_fields, no_fields}
-use Rattle.mb_frames.specs.Layout.{fields_of_access}
+use Rattle.mb_frames.specs.Layout.{access_table, fields_of_access}
 
 -- an access of data at a place: whether it writes, and whether the translation refused it
 abbrev pub refused : Space → (at len : ℕ) → (write atc : Bool) → Fault
@@ -22,7 +22,7 @@ pend at len value = record { at = at; len = len; value = value }
 
 -- the fields that a worked frame does not name are 0
 abbrev pub OtherFieldsAreZero : Type 0
-OtherFieldsAreZero = map (λ field. field.value) (fields_of_access no_fields) ≡ replicate 15 0
+OtherFieldsAreZero = map (λ field. field.value) (fields_of_access no_fields) ≡ replicate (length access_table) 0
 
 -- MOVE.L #$11223344,$1FFF, where the page at $2000 is invalid: the byte at $1FFF is written, the word and the
 -- byte after it are not

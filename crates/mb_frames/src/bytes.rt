@@ -9,7 +9,7 @@ ghost use Rattle.mb_frames.specs.Layout.{BeginsWith, Fits, IsFormat, IsFrame, by
 ghost use Rattle.mb_frames.specs.Reading.{access_in, format_in, frame_in, frame_of_format, long_at, word_at};
 
 use crate::frame::{Access, Frame};
-use crate::places::LONGEST;
+use crate::places::{LONGEST, LONGS};
 use arrayvec::ArrayVec;
 use byteorder::{BigEndian, ByteOrder};
 
@@ -54,7 +54,7 @@ fn push_head(bytes: &mut ArrayVec<u8, LONGEST>, sr: u16, pc: u32, format: u16, o
 
 /// Appends the fields of an access error. They fit, by their types.
 fn push_access(bytes: &mut ArrayVec<u8, LONGEST>, access: Access)
-    requires { array_vec_len bytes.old + 52 ≤ LONGEST }
+    requires { array_vec_len bytes.old + 4 * LONGS ≤ LONGEST }
     ensures bytes { bytes.new.items ≡ bytes.old.items ++ bytes_of_fields (fields_of_access access) }
     ensures fits { All Fits (fields_of_access access) }
 {

@@ -14,3 +14,6 @@ pub const FIELDS_PLACE: u32 = 0x08;
 
 /// The bytes of the longest frame, which is that of an access error.
 pub const LONGEST: usize = 60;
+
+/// The longs behind its format word.
+pub const LONGS: usize = LONGEST / 4 - 2;

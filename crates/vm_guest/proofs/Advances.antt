@@ -36,6 +36,7 @@ use Rattle.vm_guest.proofs.Seated.{begun_seated}
 use Rattle.vm_guest.proofs.Stretches.{nothing_arrives}
 use Rattle.vm_guest.proofs.Stops.{stopped_by}
 use Rattle.vm_guest.proofs.Takings.{assisted_takes, idle_takes}
+use Rattle.mb_frames.specs.declared.places.TheConstants.{LONGEST}
 
 -- ---- a guest that begins a step
 
@@ -223,7 +224,7 @@ leaving g b ram devices native n e after counts v r is may ran end wide fewer =
       few = omega arith;
       retired = omega arith;
       exceptions = left.exceptions;
-      frame = record { room = left.room; frame = left.frame; stands = left.read_back 60 (omega arith); lawful = left.lawful };
+      frame = record { room = left.room; frame = left.frame; stands = left.read_back LONGEST (omega arith); lawful = left.lawful };
     }
 
 -- the guest in the middle of that step
