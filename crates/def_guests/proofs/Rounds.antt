@@ -89,10 +89,10 @@ rounds_left slice (m ∷ members) h =
 
 -- ---- all are done where nothing is left
 
-no_more : (n : ℕ) → n ≤ 0 → nat_le n 0 ≡ true
+pub no_more : (n : ℕ) → n ≤ 0 → nat_le n 0 ≡ true
 no_more n h = grind (arith, nat_tests)
 
-some_more : (n : ℕ) → nat_le n 0 ≡ false → 1 ≤ n
+pub some_more : (n : ℕ) → nat_le n 0 ≡ false → 1 ≤ n
 some_more n h = grind (arith, nat_tests)
 
 done_all : (members : List Member) → left_of_all members ≤ 0 → all_done members ≡ true

@@ -17,11 +17,12 @@ use Rattle.def_processor.specs.Raise.{Stepped, finish_in, cause_at}
 use Rattle.def_processor.specs.Step.{interrupt_mask, step_of, rank}
 use Rattle.law_attempts.specs.Attempts.{IsUntraced, attempted_by}
 use Rattle.def_runs.specs.Finishes.{finish_trap_of}
-use Rattle.def_runs.specs.Frames.{pc_of, left_in}
+use Rattle.def_runs.specs.Frames.{left_in}
 use Rattle.def_guests.specs.declared.class.Class.{Class}
 use Rattle.def_guests.specs.declared.class.Class.TheVariants.{Privileged, Denied, Trapped}
 use Rattle.def_guests.specs.Classes.{class_by, is_exit}
 use Rattle.def_guests.specs.Rests.{rest_by}
+use Rattle.mb_frames.specs.Layout.{sr_of, pc_of}
 
 -- ---- which steps are left
 
@@ -57,13 +58,6 @@ class_of_vector vector = if vector == ACCESS_ERROR then Denied else if is_refusa
 
 -- ---- what the board hands back
 
--- the status register that was stacked
-abbrev pub frame_sr : Frame → ℕ
-frame_sr (frame.Short sr pc offset) = sr
-frame_sr (frame.Throwaway sr pc offset) = sr
-frame_sr (frame.Address sr pc offset address) = sr
-frame_sr (frame.Access sr pc offset access) = sr
-
 -- the fields of an access error
 abbrev pub frame_access : Frame → Option Access
 frame_access (frame.Access sr pc offset access) = Some access
@@ -71,7 +65,7 @@ frame_access _ = None
 
 -- The guest's registers: D, and A with USP, of the board; PC and condition codes of the frame.
 abbrev pub handed_by : Regs → Frame → Plain
-handed_by r f = record { d = r.d; a = r.a ++ r.usp ∷ []; pc = pc_of f; ccr = frame_sr f % 2 ^ 5 }
+handed_by r f = record { d = r.d; a = r.a ++ r.usp ∷ []; pc = pc_of f; ccr = sr_of f % 2 ^ 5 }
 
 -- where no access was denied: the step is done by the guest alone, or its trap is entered
 abbrev pub rest_without : Bool → ℕ → (level : ℕ) → Cpu → Plain → Routine Stepped

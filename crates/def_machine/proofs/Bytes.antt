@@ -1,6 +1,6 @@
 -- Memory stays bytes.
 use Rattle.std.proofs.Common.{ℕ, zero, suc, ◌^◌, ◌<◌, Bool, true, false, List, [], ◌∷◌, ◌++◌, length, take, drop}
-use Rattle.std.specs.Prelude.{All, Option, Some, None, Result, Ok, Err, if◌then◌else◌, ◌+◌, unwrap_or}
+use Rattle.std.specs.Prelude.{Option, Some, None, Result, Ok, Err, if◌then◌else◌, ◌+◌, unwrap_or}
 use Rattle.std.proofs.lemmas.List.Elements.{All-nil, All-cons, All-append, All-take, All-drop}
 use Rattle.std.specs.Int.{bytes_high_first, byte_at}
 use Rattle.byteorder.specs.Endian.{big_bytes}
@@ -11,7 +11,7 @@ use Rattle.mb_port.specs.Routine.{Call, Fetch, Read, Write, ReadLine, WriteLine,
 use Rattle.mb_model.specs.Keeping.{Rule}
 use Rattle.mb_walk.specs.declared.found.Found.{Found}
 use Rattle.mb_walk.specs.declared.found.Found.TheVariants.{Entry, Invalid, BusError}
-use Rattle.mb_walk.specs.Memory.{overwritten, with_number}
+use Rattle.mb_walk.specs.Memory.{overwritten, with_number, AreBytes}
 use Rattle.mb_walk.specs.Search.{Searched, Level, below, descended, paged, pointed, ended, search_of, and_below}
 use Rattle.def_machine.specs.declared.reference.Reference.{Reference}
 use Rattle.def_machine.specs.declared.reference.Settled.{Settled}
@@ -21,9 +21,6 @@ use Rattle.def_machine.specs.Places.{Stand, memory, register, nowhere, taken, ta
 use Rattle.def_machine.specs.Access.{search_for, searched, translated, by_settled, by_found}
 use Rattle.def_machine.specs.Bus.{bus_of, read_at, read_by, written_at, written_by, wrote, tested, tested_by, after_set_mmu}
 use Rattle.mb_walk.proofs.LongLemmas.{byte_small}
-
-abbrev pub AreBytes : List ℕ → Type 0
-AreBytes ram = All (λ byte. byte < 2 ^ 8) ram
 
 -- ---- what is written
 

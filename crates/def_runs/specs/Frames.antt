@@ -15,15 +15,9 @@ use Rattle.def_processor.specs.Raise.{cause_at}
 use Rattle.def_processor.specs.Return.{continues}
 use Rattle.def_runs.specs.declared.left.LeftOver.{LeftOver}
 use Rattle.def_runs.specs.declared.left.LeftOver.TheVariants.{Again, Writes, Line, Movem}
+use Rattle.mb_frames.specs.Layout.{pc_of}
 
 -- ---- the cause
-
--- the PC that was stacked
-abbrev pub pc_of : Frame → ℕ
-pc_of (frame.Short sr pc offset) = pc
-pc_of (frame.Throwaway sr pc offset) = pc
-pc_of (frame.Address sr pc offset address) = pc
-pc_of (frame.Access sr pc offset access) = pc
 
 -- the vectors of TRAP #0 to TRAP #15
 abbrev pub is_trap_instruction : ℕ → Bool

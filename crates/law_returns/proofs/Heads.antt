@@ -8,7 +8,7 @@ use Rattle.mb_port.specs.declared.types.Space.TheVariants.{Super}
 use Rattle.mb_frames.specs.declared.frame.Access.{Access}
 use Rattle.mb_frames.specs.declared.frame.Frame.{Frame}
 use Rattle.mb_frames.specs.declared.frame.Frame.TheVariants as frame
-use Rattle.mb_frames.specs.Layout.{Fits, StandsIn, fields_of, format_of, vector_offset_of, frame_bytes, frame_length, IsFrame}
+use Rattle.mb_frames.specs.Layout.{Fits, StandsIn, fields_of, format_of, vector_offset_of, frame_bytes, frame_length, IsFrame, pc_of, sr_of}
 use Rattle.mb_frames.specs.Reading.{word_at, long_at, format_of_word, access_in}
 use Rattle.mb_frames.proofs.Fields.{ReadsAs, fields_read}
 use Rattle.mb_frames.proofs.RoundTrip.{access-read, format-read, frame_bytes-stand_alone, length-frame_bytes}
@@ -19,19 +19,6 @@ use Rattle.mb_ea.specs.declared.reading.ReadFault.{ReadFault}
 use Rattle.def_processor.specs.Return.{Head, read_head_of}
 use Rattle.law_returns.specs.Keeping.{Placing, Viewing, Shows, Keeps}
 use Rattle.law_returns.proofs.Readings.{Gives, followed, at_once, shown_still, shown_behind, reads}
-
--- SR, PC and the fields of a frame
-abbrev pub sr_of : Frame → ℕ
-sr_of (frame.Short sr pc offset) = sr
-sr_of (frame.Throwaway sr pc offset) = sr
-sr_of (frame.Address sr pc offset address) = sr
-sr_of (frame.Access sr pc offset access) = sr
-
-abbrev pub pc_of : Frame → ℕ
-pc_of (frame.Short sr pc offset) = pc
-pc_of (frame.Throwaway sr pc offset) = pc
-pc_of (frame.Address sr pc offset address) = pc
-pc_of (frame.Access sr pc offset access) = pc
 
 -- what RTE makes of its head
 abbrev pub head_from : Frame → Head

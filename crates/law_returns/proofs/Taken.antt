@@ -6,7 +6,7 @@ use Rattle.mb_instr.specs.Registers.{is_supervisor, is_master, active_stack}
 use Rattle.mb_frames.specs.declared.frame.Access.{Access}
 use Rattle.mb_frames.specs.declared.frame.Frame.{Frame}
 use Rattle.mb_frames.specs.declared.frame.Frame.TheVariants as frame
-use Rattle.mb_frames.specs.Layout.{IsFrame, format_of, frame_bytes, frame_length}
+use Rattle.mb_frames.specs.Layout.{IsFrame, format_of, frame_bytes, frame_length, pc_of, sr_of}
 use Rattle.mb_frames.proofs.RoundTrip.{length-frame_bytes}
 use Rattle.mb_model.specs.declared.processor.Cpu.{Cpu}
 use Rattle.mb_model.specs.Status.{kept_status}
@@ -21,7 +21,7 @@ use Rattle.law_returns.specs.Keeping.{Placing, Viewing, Shows, Keeps}
 use Rattle.law_returns.specs.Returns.{IsLawfulCause, AreSeen, taken_back, CanReturn, FramesAreTaken}
 use Rattle.law_returns.proofs.Readings.{Gives, followed, at_once, shown_still, shown_behind}
 use Rattle.law_returns.proofs.Longs.{longs_in, reads_longs, fields_among}
-use Rattle.law_returns.proofs.Heads.{sr_of, pc_of, head_from, reads_head, fields_of_frame}
+use Rattle.law_returns.proofs.Heads.{head_from, reads_head, fields_of_frame}
 use Rattle.law_returns.proofs.Status.{master_supervised, master_masked, master_without, thrown_supervisor, thrown_master}
 use Rattle.law_returns.proofs.Bytes.{frame_is_bytes}
 use Rattle.mb_frames.specs.declared.places.TheConstants.{LONGEST, LONGS}

@@ -30,7 +30,7 @@ use Rattle.law_turns.specs.Refill.{HasBegunAgain}
 use Rattle.law_turns.specs.Again.{Midway, unbegun, refilled_seat, MidwayAgain, MidwayAhead, MidwayEnds, MidwayBegins, MidwayTakes, MidwayWithin}
 use Rattle.law_turns.specs.Batch.{IsTried}
 use Rattle.law_turns.proofs.Quiet.{tried_class, untraced}
-use Rattle.law_turns.proofs.Taking.{same_turned}
+use Rattle.law_turns.proofs.Taking.{same_turned, no_refills}
 use Rattle.law_turns.proofs.Refill.{none_is_refilled, steps_begin_again, again_comes_to_the_same, again_advances}
 
 same_both : (g mid seat : Seat) → IsSame g mid → IsSame mid seat → IsSame g seat
@@ -163,15 +163,6 @@ midway_ends g ram native k n left mid now counts m end seat next later means tal
     }
 
 -- ---- the guest before the step
-
-no_refills : (c : Class) (t : Tally) → with_refills c 0 t ≡ t
-no_refills class.Retired t = refl
-no_refills class.Entered t = refl
-no_refills class.Idle t = refl
-no_refills class.Traced t = refl
-no_refills class.Privileged t = refl
-no_refills class.Denied t = refl
-no_refills class.Trapped t = refl
 
 pub class_begins : (script : Entries) (start q : Guested) → guest_begun script start ≡ q
     → step_class_at_first script start ≡ class_at_first (asked_of script q.machine) q.machine.cpu (bus_side q)

@@ -23,6 +23,8 @@ use Rattle.law_turns.proofs.Exit.{left_steps}
 use Rattle.law_turns.proofs.Refill.{first_is_last}
 use Rattle.def_guests.proofs.Trails.{trail_append}
 use Rattle.mb_frames.specs.declared.places.TheConstants.{LONGEST}
+use Rattle.def_runs.proofs.RunEnds.{run-none}
+use Rattle.def_guests.proofs.TurnLaws.{nothing_turned}
 
 -- ---- one step of the board's run
 
@@ -37,10 +39,6 @@ run_off : (n v : ℕ) (r : Ran) → (ran_by (user_step r.machine) r).end ≡ Exi
 unfolding user_run
 run_off n v r h = rw h refl
 
-run_none : (r : Ran) → user_run zero r ≡ r
-unfolding user_run
-run_none r = refl
-
 counts_none : (f : Finish) (before : Plain) (after : Machine) (native : NativeState) → f ≡ finish.Went
     → with_step f before after native ≡ with_retired before (plain_of after.cpu.regs) native
 counts_none f before after native e = ap (λ (o : Finish). with_step o before after native) e
@@ -51,10 +49,6 @@ counts_some f n before after native e h =
     ap (λ (o : Finish). with_step o before after native) e ∙ ap (λ (b : Bool). cond b (with_exception native) native) h
 
 -- ---- one step of the guest's turn
-
-turn_none : (script : Entries) (t : Turned) → turn_of script zero t ≡ t
-unfolding turn_of
-turn_none script t = refl
 
 turn_on : (script : Entries) (k : ℕ) (t : Turned) → takes_steps t.guest.machine.state ≡ true → turn_of script (suc k) t ≡ turn_of script k (advanced script t)
 unfolding turn_of
@@ -120,7 +114,7 @@ none_yet : (x : Site) (script : Entries) (n : ℕ) (r after : Ran) (t : Turned) 
     → after.native.retired ≡ r.native.retired → after.native.trail ≡ r.native.trail
     → (((zero ≡ n) × IsCounted x t r after) ⊎ ((0 < n) × IsExit x script t r after)) → Batch x script n r t after
 none_yet x script n r after t running same sum end =
-    let e = turn_none script t in
+    let e = nothing_turned script t in
     record {
       retired = 0;
       marks = [];
@@ -202,7 +196,7 @@ one_more x script n r one after t u on is p q tally marks unleft want retired he
 
 pub runs_are_batches : RunsAreBatches
 runs_are_batches x script zero r t end b f running on stretch =
-    subst (Batch x script zero r t) (sym (run_none r)) (none_yet x script zero r r t running refl refl
+    subst (Batch x script zero r t) (sym (run-none r)) (none_yet x script zero r r t running refl refl
     (inl (refl, record { end = end; boarded = b; furnished = f; inside = record { count = refl; below = refl; above = refl }; exceptions = refl })))
 runs_are_batches x script (suc n) r t end b f running on (want, tried, more) =
     let g = t.guest in

@@ -12,7 +12,7 @@ use Rattle.mb_instr.specs.Registers.{is_supervisor, is_master, active_stack, pla
 use Rattle.mb_frames.specs.declared.frame.Access.{Access}
 use Rattle.mb_frames.specs.declared.frame.Frame.{Frame}
 use Rattle.mb_frames.specs.declared.frame.Frame.TheVariants as frame
-use Rattle.mb_frames.specs.Layout.{frame_bytes, IsFrame, BeginsWith}
+use Rattle.mb_frames.specs.Layout.{frame_bytes, IsFrame, BeginsWith, pc_of, sr_of}
 use Rattle.mb_model.specs.declared.processor.Cpu.{Cpu}
 use Rattle.mb_model.specs.Status.{space_of}
 use Rattle.mb_walk.specs.Memory.{overwritten, part}
@@ -62,7 +62,7 @@ use Rattle.def_guests.specs.Turns.{step_class_at_first, bus_side}
 use Rattle.def_runs.specs.Native.{user_step}
 use Rattle.law_turns.specs.Retire.{HasRegisters}
 use Rattle.def_guests.specs.Rests.{rest_of}
-use Rattle.def_guests.specs.Exits.{frame_sr, frame_access, handed_by, rest_by_frame}
+use Rattle.def_guests.specs.Exits.{frame_access, handed_by, rest_by_frame}
 use Rattle.law_turns.specs.Exit.{left_guest, Leaves, IsExitClass, LeftSteps}
 use Rattle.law_turns.proofs.Lists.{between}
 use Rattle.law_turns.proofs.Rest.{steps_go_on}
@@ -81,7 +81,6 @@ use Rattle.law_held.proofs.Attempts.{attempts_go_on}
 use Rattle.law_leave.specs.Fits.{IsLong}
 use Rattle.law_leave.proofs.FitEnds.{ends_fit}
 use Rattle.law_leave.proofs.Steps.{in_it, steps_leave}
-use Rattle.def_runs.specs.Frames.{pc_of}
 use Rattle.def_guests.proofs.Exits.{found_instr}
 use Rattle.mb_frames.specs.declared.places.TheConstants.{LONGEST}
 
@@ -100,13 +99,13 @@ entered_by e b master one =
     let f = frames_of e.cause e.cpu.regs in
     rw one (rw master (record { d = refl; a = refl; usp = refl; isp = refl }))
 
-frame_is : (o : Option Access) (sr : ℕ) (c : Cause) → (pc_of (frame_with o sr c) ≡ c.pc) × (frame_sr (frame_with o sr c) ≡ sr)
+frame_is : (o : Option Access) (sr : ℕ) (c : Cause) → (pc_of (frame_with o sr c) ≡ c.pc) × (sr_of (frame_with o sr c) ≡ sr)
     × (frame_access (frame_with o sr c) ≡ o)
 frame_is (Some access) sr c = (refl, refl, refl)
 frame_is None sr c = by_address (has_address c.vector)
   where
     by_address : (b : Bool) → let f = cond b (frame.Address sr c.pc (4 * c.vector) c.address) (frame.Short sr c.pc (4 * c.vector)) in
-        (pc_of f ≡ c.pc) × (frame_sr f ≡ sr) × (frame_access f ≡ (let o : Option Access = None in o))
+        (pc_of f ≡ c.pc) × (sr_of f ≡ sr) × (frame_access f ≡ (let o : Option Access = None in o))
     by_address true = (refl, refl, refl)
     by_address false = (refl, refl, refl)
 

@@ -232,7 +232,7 @@ attempted : (script : Entries) (g : Guested) (v : ℕ) → class_of_vector v ≡
 attempted script g v e = let b = guest_begun script g in
     is_attempt (asked_of script b.machine) b.machine.cpu (bus_side b) (class_of_vector v) (sym e) (left_tried v)
 
-no_refills : (c : Class) (t : Tally) → with_refills c 0 t ≡ t
+pub no_refills : (c : Class) (t : Tally) → with_refills c 0 t ≡ t
 no_refills class.Retired t = refl
 no_refills class.Entered t = refl
 no_refills class.Idle t = refl

@@ -42,6 +42,7 @@ use Rattle.mb_asm.proofs.Parts.{judged_parts}
 use Rattle.mb_asm.specs.Texts.{Chunks, Fault, at_line, chunks_from, finished, no_chunks, symbols_of, with_laid}
 use Rattle.mb_asm.specs.Values.{Scope, has_flaw, have_flaw, in_operand, is_long, is_nameless, signed_value, sum_behind, term_value, value_of, values_of}
 use Rattle.mb_asm.specs.Values.{with_sign}
+use Rattle.mb_mnemonics.proofs.Names.{neither}
 
 abbrev pub HasValue : Symbol → Type 0
 HasValue symbol = is_some symbol.value ≡ true
@@ -56,10 +57,6 @@ bound (Err e) f y is = absurd cc
 refused : (b : Bool) (kind : AsmKind) (x : Unit {0}) → refuse b kind ≡ Ok x → b ≡ false
 refused true kind x is = absurd cc
 refused false kind x is = refl
-
-pub neither : (a b : Bool) → (a || b) ≡ false → (a ≡ false) × (b ≡ false)
-neither true b e = absurd cc
-neither false b e = (refl, e)
 
 -- ---- expressions
 

@@ -59,7 +59,8 @@ use Rattle.mb_asm.specs.Values.{is_nameless}
 use Rattle.mb_asm.specs.Values.{is_wide, signed_value, sum_behind, term_value, value_of, values_of, with_sign}
 use Rattle.mb_asm.proofs.Filled.{Fills, IsNumber, IsTarget, all_filled, all_unmarked, fill, near_at, out_stays, unmarked}
 use Rattle.mb_asm.proofs.Parts.{judged_parts}
-use Rattle.mb_asm.proofs.Known.{behind_by, bound, neither}
+use Rattle.mb_asm.proofs.Known.{behind_by, bound}
+use Rattle.mb_mnemonics.proofs.Names.{neither}
 
 -- ---- expressions
 

@@ -87,6 +87,19 @@ vector_offset_of (frame.Throwaway sr pc offset) = offset
 vector_offset_of (frame.Address sr pc offset address) = offset
 vector_offset_of (frame.Access sr pc offset access) = offset
 
+-- the status register and the program counter that it saves
+abbrev pub sr_of : Frame → ℕ
+sr_of (frame.Short sr pc offset) = sr
+sr_of (frame.Throwaway sr pc offset) = sr
+sr_of (frame.Address sr pc offset address) = sr
+sr_of (frame.Access sr pc offset access) = sr
+
+abbrev pub pc_of : Frame → ℕ
+pc_of (frame.Short sr pc offset) = pc
+pc_of (frame.Throwaway sr pc offset) = pc
+pc_of (frame.Address sr pc offset address) = pc
+pc_of (frame.Access sr pc offset access) = pc
+
 -- the bytes of fields that follow one another, each with its highest byte first
 abbrev pub bytes_of_fields : List Field → List ℕ
 bytes_of_fields [] = []

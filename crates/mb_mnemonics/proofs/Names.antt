@@ -13,7 +13,7 @@ use Rattle.mb_mnemonics.specs.declared.line.Line.{Line}
 use Rattle.mb_mnemonics.specs.Lines.{condition_by, lines}
 use Rattle.mb_mnemonics.specs.Means.{Form, form_by, form_among, is_named, said, told, whole, meaning_by, meaning}
 
-neither : (a b : Bool) → (a || b) ≡ false → (a ≡ false) × (b ≡ false)
+pub neither : (a b : Bool) → (a || b) ≡ false → (a ≡ false) × (b ≡ false)
 neither true b e = absurd cc
 neither false b e = (refl, e)
 

@@ -1,9 +1,8 @@
 -- Rounds of a session.
 use Rattle.std.proofs.Common.{◌≡◌, ◌∙◌, ℕ, zero, suc, ◌+◌, ◌*◌, ◌^◌, ◌≤◌, ◌<◌, List, [], ◌∷◌, ◌++◌, length, map}
 use Rattle.std.proofs.Common.{refl, ap, sym, subst, true, false, inl, inr, arith}
-use Rattle.std.specs.Prelude.{nat_le, All}
+use Rattle.std.specs.Prelude.{All}
 use Rattle.std.proofs.lemmas.Bool.{cases_Bool, cases_lt}
-use Rattle.std.proofs.lemmas.Bool.Decides.{nat_tests}
 use Rattle.mb_instr.specs.declared.registers.Plain.{Plain}
 use Rattle.def_machine.specs.Machine.{Machine, takes_steps}
 use Rattle.def_runs.specs.Native.{NativeState}
@@ -11,19 +10,13 @@ use Rattle.def_guests.specs.Turns.{Tally}
 use Rattle.def_guests.specs.Rounds.{Member, left, is_done, opened, Hosted, members_after, marks_after, exceptions_after, round, all_done, left_of_all}
 use Rattle.def_guests.specs.Rounds.{rounds, host_run, WholeTurns}
 use Rattle.def_guests.proofs.ByRule.{turns_by_rule}
-use Rattle.def_guests.proofs.Rounds.{rounds_end_all}
+use Rattle.def_guests.proofs.Rounds.{rounds_end_all, no_more, some_more}
 use Rattle.vm_slices.specs.Counting.{AreCounted, HasRoom, RisesBy}
 use Rattle.vm_slices.specs.Members.{machine_at_end, tally_at_end, after_rounds, machines_of, tallies_of, IsBounded}
 use Rattle.vm_slices.proofs.Places.{counted_on, nothing_counted}
 use Rattle.vm_slices.proofs.Turns.{turn_left}
 
 -- ---- what is left
-
-no_more : (n : ℕ) → n ≤ 0 → nat_le n 0 ≡ true
-no_more n h = grind (arith, nat_tests)
-
-some_more : (n : ℕ) → nat_le n 0 ≡ false → 1 ≤ n
-some_more n h = grind (arith, nat_tests)
 
 nothing_left : (ms : List Member) → left_of_all ms ≤ 0 → all_done ms ≡ true
 nothing_left [] h = refl

@@ -1,7 +1,6 @@
 -- Kept entries: so many lines, of pages that differ in space or number.
-use Rattle.std.specs.Prelude.{ℕ, ◌+◌, ◌*◌, ◌/◌, ◌%◌, ◌==◌, not, Bool, true, ◌||◌, if◌then◌else◌, List, [], ◌∷◌, ◌++◌, codes}
+use Rattle.std.specs.Prelude.{ℕ, ◌+◌, ◌/◌, ◌%◌, ◌==◌, not, Bool, true, ◌||◌, if◌then◌else◌, List, [], ◌∷◌, ◌++◌, codes}
 use Rattle.std.specs.List.{list_any}
-use Rattle.std.specs.Int.{from_bool}
 use Rattle.mb_port.specs.declared.types.Space.{Space}
 use Rattle.mb_port.specs.declared.types.Space.TheVariants.{User, Super}
 use Rattle.mb_model.specs.declared.kept.Kept.{Kept}
@@ -10,6 +9,7 @@ use Rattle.mb_spelling.specs.Spelling.{Spelling, one, both, over, behind, before
 use Rattle.mb_spelling.specs.Hex.{any_number, passing, number, digit}
 use Rattle.mb_spelling.specs.Decimals.{Range, from_to}
 use Rattle.mb_spelling.specs.Lists.{times, listed}
+use Rattle.mb_report.specs.Kept.{flags_of}
 
 -- ---- S or U
 
@@ -47,10 +47,6 @@ fields kept =
     both space_letter (λ space. both (behind (codes " ") (number (passing (is_free kept space)) 5 0))
     (λ page. both (behind (codes " ") (number any_number 5 0))
     (λ frame. behind (codes " ") (before (digit any_digit) (10 ∷ [])))))
-
--- 8 for W, 4 for S, 2 for G and 1 for M
-abbrev pub flags_of : Kept → ℕ
-flags_of k = 8 * from_bool k.w + (4 * from_bool k.s + (2 * from_bool k.g + from_bool k.m))
 
 abbrev pub kept_said : Space × (ℕ × (ℕ × ℕ)) → Kept
 kept_said v = record {
