@@ -22,8 +22,9 @@ use mb_model::RunState;
 use mb_script::Script;
 use mb_step::rank;
 
-/// How many of so many steps, behind those that are taken, come before the step of the script's next entry.
-fn before_entry(script: &Script, next: u32, taken: u32, limit: u32) -> u32
+/// How many of so many steps, behind those that are taken, come before the step of the script's next entry, which is
+/// the one at `next`.
+pub fn before_entry(script: &Script, next: u32, taken: u32, limit: u32) -> u32
     requires { IsNext script.now taken next }
     ensures next { IsNext script.now (taken + result) next }
     ensures within { result ≤ limit }
@@ -36,7 +37,7 @@ fn before_entry(script: &Script, next: u32, taken: u32, limit: u32) -> u32
 }
 
 /// How many of so many steps pass before the timer comes to 0.
-fn before_tick(devices: &Devices, limit: u32) -> u32
+pub fn before_tick(devices: &Devices, limit: u32) -> u32
     ensures due { IsNotDue result devices.now }
     ensures within { result ≤ limit }
 {

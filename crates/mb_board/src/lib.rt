@@ -21,6 +21,7 @@ mod spelling;
 mod states;
 mod translating;
 
+pub use bare::{before_entry, before_tick};
 pub use board::Board;
 pub use bus::MOST_BOARD_BYTES;
 pub use def_runs::RunEnd;

@@ -28,7 +28,7 @@ use crate::readying::{make_ready, set_registers};
 use crate::rest::Rest;
 use def_guests::{Class, MOST_REFILLS};
 use def_processor::StepEnd;
-use mb_board::{Board, Native, RunEnd, state_after};
+use mb_board::{Board, Native, RunEnd, before_entry, before_tick, state_after};
 use mb_devices::Devices;
 use mb_frames::{Frame, LONGEST, from_bytes};
 use mb_instr::{Plain, Regs};
@@ -65,16 +65,7 @@ fn more_steps(script: &Script, next: u32, taken: u32, devices: &Devices, limit: 
     ensures due { IsNotDue result devices.now }
     ensures within { result ≤ limit }
 {
-    let _ = script.count();
-    let before_entry = match script.entry(next) {
-        Some(entry) => limit.min(entry.step - taken - 1),
-        None => limit,
-    };
-    if devices.period() == 0 {
-        before_entry
-    } else {
-        before_entry.min(devices.count() - 1)
-    }
+    before_tick(devices, before_entry(script, next, taken, limit))
 }
 
 /// The registers that user mode sees.
