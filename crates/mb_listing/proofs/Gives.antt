@@ -21,7 +21,7 @@ use Rattle.mb_statement.specs.Texts.{statement_text}
 use Rattle.mb_statement.specs.Written.{has_text, is_written}
 use Rattle.mb_statement.proofs.Lexemes.{both}
 use Rattle.mb_statement.proofs.LinesWritten.{all_named, is_named, statement_written}
-use Rattle.mb_listing.specs.Listing.{Line, are, data_line, instruction_line, line_among, line_at, line_by, line_said, says}
+use Rattle.mb_listing.specs.Listing.{Line, data_line, instruction_line, is_said, line_among, line_at, line_by, line_said, says}
 use Rattle.mb_listing.specs.Listing.{lines_from, lines_of, words_at, words_in}
 use Rattle.mb_listing.specs.Laws.{EachLineGives, GivesItsWords}
 use Rattle.mb_listing.proofs.DataLines.{data_gives_its_word}
@@ -40,7 +40,7 @@ module _ (P : Line → Type 0) (at : ℕ) where
     by_test : (l : Mnemonic) (s : Statement) (test : Bool) → is_named l ≡ true → statement_by l at words ≡ Some s → says at words s ≡ test
         → Made (if test then Some (record { at = at; words = words; text = statement_text s }) else None)
     by_test l s true named made e =
-        let parts = both (list_all has_text s.operands) (are words (words_by s.name s.size s.operands at)) e in
+        let parts = both (list_all has_text s.operands) (is_said words (words_by s.name s.size s.operands at)) e in
         listed s (statement_written l at words s named small made parts.0) e
     by_test l s false named made e = tt
 

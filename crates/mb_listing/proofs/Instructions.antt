@@ -35,7 +35,7 @@ use Rattle.mb_statement.specs.Statements.{Statement}
 use Rattle.mb_statement.specs.Texts.{statement_text}
 use Rattle.mb_statement.specs.Written.{has_text, is_written}
 use Rattle.mb_statement.proofs.Lexemes.{both}
-use Rattle.mb_listing.specs.Listing.{are, bytes_of, says}
+use Rattle.mb_listing.specs.Listing.{bytes_of, is_said, says}
 use Rattle.mb_listing.specs.Laws.{GivesItsWords}
 use Rattle.mb_listing.proofs.NoDirectives.{no_directive}
 use Rattle.mb_listing.proofs.Numbers.{Flaw, no_flaw, values_again}
@@ -146,7 +146,7 @@ module _ (at : ℕ) (word : ℕ) (words : List ℕ) (s : Statement) (i : Instr) 
 
 -- ---- the test of a line
 
-are_same : (words : List ℕ) (o : Option (List ℕ)) → are words o ≡ true → o ≡ Some words
+are_same : (words : List ℕ) (o : Option (List ℕ)) → is_said words o ≡ true → o ≡ Some words
 are_same words None h = absurd cc
 are_same words (Some said) h = ap (λ (x : List ℕ). Some x) ((bytes_eq-Decides said words).0 h)
 

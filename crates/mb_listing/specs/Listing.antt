@@ -23,13 +23,14 @@ use Rattle.mb_statement.specs.Written.{has_text}
 abbrev pub bytes_of : List ℕ → List ℕ
 bytes_of words = flat_map (λ word. word / 256 ∷ word % 256 ∷ []) words
 
-abbrev pub are : List ℕ → Option (List ℕ) → Bool
-are words None = false
-are words (Some said) = bytes_eq said words
+-- what is said, if anything, is the words
+abbrev pub is_said : List ℕ → Option (List ℕ) → Bool
+is_said words None = false
+is_said words (Some said) = bytes_eq said words
 
 -- A statement that a line makes of words has a text, and these are the words that the table has for it at the address.
 abbrev pub says : ℕ → List ℕ → Statement → Bool
-says at words s = list_all has_text s.operands && are words (words_by s.name s.size s.operands at)
+says at words s = list_all has_text s.operands && is_said words (words_by s.name s.size s.operands at)
 
 -- ---- lines
 

@@ -13,7 +13,7 @@ ghost use Rattle.mb_statement.specs.Answers.{statement_said};
 ghost use Rattle.mb_statement.specs.Statements.{statement_by};
 ghost use Rattle.mb_listing.specs.Answers.{line_said};
 ghost use Rattle.mb_listing.specs.Listing as listing;
-ghost use Rattle.mb_listing.specs.Listing.{are, bytes_of, data_line, instruction_line, line_among, line_at, line_text};
+ghost use Rattle.mb_listing.specs.Listing.{bytes_of, data_line, instruction_line, is_said, line_among, line_at, line_text};
 ghost use Rattle.mb_listing.specs.Listing.{says};
 ghost use Rattle.mb_instr.specs.declared.counts.TheConstants.{MOST_WORDS};
 
@@ -96,7 +96,7 @@ fn data_line(at: u32, words: &[u16]) -> Line<'_>
 
 /// Whether these are the words that the table has for a statement at the address.
 fn are_said(at: u32, words: &[u16], statement: &Statement) -> bool
-    ensures { result ≡ are words.now (words_by (statement_said statement.now).name statement.now.size
+    ensures { result ≡ is_said words.now (words_by (statement_said statement.now).name statement.now.size
         (statement_said statement.now).operands at) }
 {
     let operands = statement.operands.as_slice();

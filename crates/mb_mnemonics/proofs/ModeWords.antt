@@ -27,7 +27,7 @@ use Rattle.mb_mnemonics.specs.declared.range.Range.{Range}
 use Rattle.mb_mnemonics.specs.declared.range.Range.TheVariants as range
 use Rattle.mb_mnemonics.specs.Ranges.{displacement, distance, greatest, immediate_range, least, number, values}
 use Rattle.mb_mnemonics.specs.Modes.{base_displacement, brief, displacement_bits, displacement_words, extension_words, from_pc, full, full_word}
-use Rattle.mb_mnemonics.specs.Modes.{immediate_words, index_bits, indirection_bits, is_dropped, is_long, is_word, mode_words, outer_of, plain}
+use Rattle.mb_mnemonics.specs.Modes.{immediate_words, index_bits, indirection_bits, is_dropped_base, is_long, is_word, mode_words, outer_of, plain}
 use Rattle.mb_mnemonics.specs.Modes.{scale_bits, width_size, words_of}
 
 -- what an option gives comes from a value of it
@@ -193,7 +193,7 @@ full_small f =
     let i = index_small f.index in
     let d : displacement_words f.displacement ≤ 2 = few f.displacement in
     let o : displacement_words f.outer ≤ 2 = few f.outer in
-    let b = flag_is (is_dropped f.base) in
+    let b = flag_is (is_dropped_base f.base) in
     let x = flag_is f.index.is_dropped in
     let k = indirection_small f.indirection f.index.is_dropped (displacement_bits f.outer) (omega arith) in
     let e = indirection_is f in

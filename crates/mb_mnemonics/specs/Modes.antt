@@ -125,11 +125,11 @@ brief i d = index_bits i + d % 2 ^ 8
 abbrev pub displacement_bits : Option (Displacement ℤ) → ℕ
 displacement_bits d = 1 + displacement_words d
 
-abbrev pub is_dropped : Base → Bool
-is_dropped (base.Address n) = false
-is_dropped (base.NoAddress n) = true
-is_dropped base.Pc = false
-is_dropped base.NoPc = true
+abbrev pub is_dropped_base : Base → Bool
+is_dropped_base (base.Address n) = false
+is_dropped_base (base.NoAddress n) = true
+is_dropped_base base.Pc = false
+is_dropped_base base.NoPc = true
 
 -- where the address is read from memory: not, or behind the index or before it, with the outer displacement's length;
 -- where the index is dropped it is the same behind it and before it
@@ -143,7 +143,7 @@ indirection_bits f = elim f.indirection [
 -- `rnnn lkk1 BIbb 0iii`
 abbrev pub full_word : FullForm ℤ → ℕ
 full_word f =
-    index_bits f.index + 2 ^ 8 + flag (is_dropped f.base) * 2 ^ 7 + flag f.index.is_dropped * 2 ^ 6
+    index_bits f.index + 2 ^ 8 + flag (is_dropped_base f.base) * 2 ^ 7 + flag f.index.is_dropped * 2 ^ 6
     + displacement_bits f.displacement * 2 ^ 4 + indirection_bits f
 
 abbrev pub width_size : Width → Size

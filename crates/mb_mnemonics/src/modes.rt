@@ -3,7 +3,7 @@
 ghost use Rattle.std.specs.Prelude.{◌≡◌, ◌<◌, ◌≤◌, ◌+◌, ◌∷◌, [], IfSome, length, option_map};
 ghost use Rattle.mb_mnemonics.specs.Modes.{base_mode, mode_of, base_lower, is_word, lower_of, in_class};
 ghost use Rattle.mb_mnemonics.specs.Modes.{displacement_words, immediate_words, outer_of, mode_words};
-ghost use Rattle.mb_mnemonics.specs.Modes.{scale_bits, index_bits, brief, displacement_bits, is_dropped};
+ghost use Rattle.mb_mnemonics.specs.Modes.{scale_bits, index_bits, brief, displacement_bits, is_dropped_base};
 ghost use Rattle.mb_mnemonics.specs.Modes.{indirection_bits, full_word, plain, from_pc, base_displacement, full};
 ghost use Rattle.mb_mnemonics.specs.Modes.{extension_words};
 ghost use Rattle.mb_mnemonics.specs.Ranges.{values, immediate_range};
@@ -188,8 +188,8 @@ fn displacement_bits(displacement: &Option<Displacement<i64>>) -> u8
     1 + displacement_words(displacement)
 }
 
-fn is_dropped(base: Base) -> bool
-    ensures { result ≡ is_dropped base }
+fn is_dropped_base(base: Base) -> bool
+    ensures { result ≡ is_dropped_base base }
 {
     matches!(base, Base::NoAddress(_) | Base::NoPc)
 }
@@ -211,7 +211,7 @@ fn indirection_bits(form: &FullForm<i64>) -> u8
 fn full_word(form: &FullForm<i64>) -> u16
     ensures { result ≡ full_word form.now }
 {
-    let base: u16 = if is_dropped(form.base) { 0x80 } else { 0 };
+    let base: u16 = if is_dropped_base(form.base) { 0x80 } else { 0 };
     let index: u16 = if form.index.is_dropped { 0x40 } else { 0 };
     let length = u16::from(displacement_bits(&form.displacement)) * 16;
     index_bits(&form.index) + 0x100 + base + index + length + u16::from(indirection_bits(form))

@@ -25,6 +25,7 @@ use Rattle.mb_syntax.specs.declared.operand.FieldNumber.{FieldNumber}
 use Rattle.mb_syntax.specs.declared.operand.FieldNumber.TheVariants as field_number
 use Rattle.mb_syntax.specs.declared.operand.Operand.{Operand}
 use Rattle.mb_syntax.specs.declared.operand.Operand.TheVariants as operand
+use Rattle.mb_mnemonics.specs.Modes.{is_dropped_base}
 use Rattle.mb_statement.specs.Numbers.{signed}
 use Rattle.mb_statement.specs.Statements.{Statement}
 
@@ -105,11 +106,6 @@ is_no_index i = i.is_dropped && not i.is_address && (i.register == 0) && is_word
 abbrev pub is_direct : Indirection → Bool
 is_direct indirection.Direct = true
 is_direct _ = false
-
-abbrev pub is_dropped_base : Base → Bool
-is_dropped_base (base.NoAddress n) = true
-is_dropped_base base.NoPc = true
-is_dropped_base _ = false
 
 -- brackets, a base displacement with its width and a dropped base ask for the full form
 abbrev pub asks_full : FullForm ℤ → Bool
