@@ -24,9 +24,9 @@ use Rattle.mb_program.specs.Answers.{bare_shown, asm_shown, dis_shown, host_show
 use Rattle.mb_program.specs.Around.{Around, Diag, IsPut}
 use Rattle.mb_program.specs.Causes.{Causes, Gets, Gives, HasSaved, HostsNothing, IsUnfailing, LeadsUnfailingTo}
 use Rattle.mb_program.specs.Ends.{Ends}
-use Rattle.mb_program.specs.Lines.{line_of, status_of}
+use Rattle.mb_ends.specs.Lines.{line_of, status_of}
 use Rattle.mb_files.specs.declared.fault.FileWhy.{FileWhy}
-use Rattle.mb_program.specs.declared.end.End.{End}
+use Rattle.mb_ends.specs.declared.end.End.{End}
 use Rattle.mb_files.proofs.ReadingLemmas.{end_then}
 use Rattle.mb_program.proofs.ShowLemmas.{it_fits}
 use Rattle.mb_program.proofs.DebugLemmas.{chosen}

@@ -15,7 +15,7 @@ use Rattle.vm_slices.specs.Adopting.{scripts_of}
 use Rattle.vm_slices.specs.Members.{machines_of, numbered}
 use Rattle.vm_slices.specs.Places.{HostState, members_in}
 use Rattle.mb_program.specs.Files.{Ordered}
-use Rattle.mb_program.specs.Headline.{texts_from}
+use Rattle.mb_ends.specs.Texts.{texts_from}
 use Rattle.mb_program.specs.Headline.{alone}
 use Rattle.mb_program.specs.Direct.{CarriedOut}
 use Rattle.mb_program.specs.Answers.{compare_shown, compared_text, if_it_fits, is_same, shows_same}
@@ -25,7 +25,7 @@ use Rattle.mb_program.specs.Ends.{IsGiven}
 use Rattle.mb_program.specs.Runs.{HaveRun}
 use Rattle.mb_program.proofs.ShowLemmas.{fitting}
 use Rattle.mb_program.specs.declared.bare_machine.BareMachine.{BareMachine}
-use Rattle.mb_program.specs.declared.end.End.TheVariants.{Done, Differs, Output}
+use Rattle.mb_ends.specs.declared.end.End.TheVariants.{Done, Differs, Output}
 
 -- what is found of all machines beside the guests of a host
 abbrev found_of : List BareMachine → HostState → List Bool

@@ -38,7 +38,7 @@ use Rattle.mb_program.specs.Debugs.{at_outset, course_alone, debug_shown, debugg
 use Rattle.mb_program.specs.Ends.{IsGiven}
 use Rattle.mb_program.specs.Lone.{end_of, scene_of, IsAtStart}
 use Rattle.mb_program.specs.declared.debugged.LoneGuest.{LoneGuest}
-use Rattle.mb_program.specs.declared.end.End.TheVariants.{Done, Output}
+use Rattle.mb_ends.specs.declared.end.End.TheVariants.{Done, Output}
 use Rattle.mb_program.proofs.ShowLemmas.{fitting}
 
 -- ---- its start

@@ -13,13 +13,13 @@ use Rattle.mb_files.specs.declared.fault.FileFault.TheVariants as fault
 use Rattle.mb_files.proofs.ReadingLemmas.{comes_then, known, named_is_told, unread_first}
 use Rattle.mb_program.specs.Answers.{Answer, Shown, shows, oversizes, answer_to}
 use Rattle.mb_program.specs.Around.{Around, Diag, SinkSeen, IsPut}
-use Rattle.mb_program.specs.Ends.{AnswerGiven, CommandEnds, Ends, EndsAt, IsGiven, IsIdle, IsShown, WordsEnd, end_by}
+use Rattle.mb_program.specs.Ends.{AnswerGiven, CommandEnds, Ends, EndsAt, IsGiven, IsIdle, IsShown, WordsEnd}
+use Rattle.mb_ends.specs.Lines.{end_by, line_of, status_of}
 use Rattle.mb_program.specs.Causes.{Cut, FileRefused, FileUnread, Gets, Gives, HasSaved, IsAllTold, IsDone, IsOversize, IsRefused, IsStatus, NotFit, Written}
 use Rattle.mb_program.specs.Files.{Ordered, session_files}
-use Rattle.mb_program.specs.Lines.{line_of, status_of}
 use Rattle.mb_program.specs.Saves.{IsSaved}
-use Rattle.mb_program.specs.declared.end.End.{End}
-use Rattle.mb_program.specs.declared.end.End.TheVariants.{Done, Counts, Differs, Words, Refused, Oversize, Unread, Output, Memory}
+use Rattle.mb_ends.specs.declared.end.End.{End}
+use Rattle.mb_ends.specs.declared.end.End.TheVariants.{Done, Counts, Differs, Words, Refused, Oversize, Unread, Output, Memory}
 
 -- ---- how a command ends
 

@@ -29,8 +29,10 @@ use Rattle.mb_files.specs.Snapshots.{snapshots}
 use Rattle.mb_files.specs.declared.fault.FileWhy.{FileWhy}
 use Rattle.mb_files.specs.declared.files.TheConstants.{MOST_SNAPSHOT_BYTES}
 use Rattle.mb_files.proofs.SnapshotLemmas.{said_is_known}
-use Rattle.mb_program.specs.Headline.{alone, machine_text, texts_from}
-use Rattle.mb_program.specs.Direct.{counts_line, steps_hosted}
+use Rattle.mb_program.specs.Headline.{alone, machine_text}
+use Rattle.mb_ends.specs.Texts.{texts_from}
+use Rattle.mb_program.specs.Direct.{steps_hosted}
+use Rattle.mb_ends.specs.Lines.{counts_line}
 use Rattle.mb_program.specs.Shown.{Shown}
 use Rattle.mb_program.specs.Saves.{IsSavedText, all_cut_to, cut_to, gone_on_shown, longer, resume_shown, resumed_guest, seat_of, session_of, shown_alone, tally_since}
 

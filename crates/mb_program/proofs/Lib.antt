@@ -1,4 +1,3 @@
-pub mod TextLemmas
 pub mod GuestLemmas
 pub mod MachineLemmas
 pub mod RunLemmas

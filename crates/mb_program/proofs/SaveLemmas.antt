@@ -30,13 +30,13 @@ use Rattle.vm_slices.specs.Places.{HostState, members_in}
 use Rattle.vm_disk.specs.Disk.{DiskState}
 use Rattle.vm_snapshot.specs.Shown.{CanBeTold, ShownGuest, guests_text, head_text, saved_in, snapshot_text}
 use Rattle.vm_snapshot.specs.Texts.{guest_text}
-use Rattle.mb_program.specs.Headline.{texts_from}
+use Rattle.mb_ends.specs.Texts.{texts_from}
 use Rattle.mb_program.specs.Direct.{AreCarriedOut, steps_hosted, tallies_by, tally_by}
 use Rattle.mb_program.specs.Saves.{IsSaved, all_cut_to, cut_to, shown_alone, shown_of, turn_each}
 use Rattle.mb_program.specs.Saved.{AreGuests, HaveStopped, kept_by, shown_by, shown_text}
 use Rattle.mb_program.proofs.KeptLemmas.{take_one_more}
 use Rattle.mb_program.proofs.RunLemmas.{all_left, exits_sum, none_left, none_retired, none_taken, retired_sum}
-use Rattle.mb_program.proofs.TextLemmas.{at_place}
+use Rattle.mb_ends.proofs.TextLemmas.{at_place}
 
 -- ---- turns
 

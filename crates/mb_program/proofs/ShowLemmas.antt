@@ -17,15 +17,16 @@ use Rattle.vm_snapshot.specs.Shown.{ShownGuest, snapshot_text}
 use Rattle.mb_program.specs.Files.{Ordered}
 use Rattle.mb_program.specs.Saved.{HaveGoneOn, HaveStopped, shown_by}
 use Rattle.mb_program.specs.Saves.{resume_shown, save_shown, session_of}
-use Rattle.mb_program.specs.Headline.{alone, machine_text, texts_from}
-use Rattle.mb_program.specs.Direct.{CarriedOut, counts_line}
+use Rattle.mb_program.specs.Headline.{alone, machine_text}
+use Rattle.mb_ends.specs.Texts.{texts_from}
+use Rattle.mb_program.specs.Direct.{CarriedOut}
+use Rattle.mb_ends.specs.Lines.{counts_line, status_of, unopened}
 use Rattle.mb_program.specs.Answers.{Answer, Shown, shows, oversizes, host_shown, if_it_fits}
 use Rattle.mb_program.specs.Around.{SinkSeen, Gains, GainsPart}
 use Rattle.mb_program.specs.Ends.{IsGiven, IsIdle}
-use Rattle.mb_program.specs.Lines.{status_of}
-use Rattle.mb_program.specs.Runs.{HaveRun, IsUnopened, unopened}
-use Rattle.mb_program.specs.declared.end.End.{End}
-use Rattle.mb_program.specs.declared.end.End.TheVariants.{Counts, Done, Memory, Output}
+use Rattle.mb_program.specs.Runs.{HaveRun, IsUnopened}
+use Rattle.mb_ends.specs.declared.end.End.{End}
+use Rattle.mb_ends.specs.declared.end.End.TheVariants.{Counts, Done, Memory, Output}
 
 -- a session that fits gives what is shown
 pub it_fits : (s : SessionAtStart) (shown : Shown) → Fits s → if_it_fits s shown ≡ shows shown

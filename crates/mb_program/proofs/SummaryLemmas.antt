@@ -15,8 +15,9 @@ use Rattle.mb_program.specs.Direct.{CarriedOut}
 use Rattle.mb_program.specs.Answers.{shows, gen_shown, made_session, summary_text}
 use Rattle.mb_program.specs.Around.{SinkSeen, Gains, GainsPart}
 use Rattle.mb_program.specs.Ends.{IsGiven}
-use Rattle.mb_program.specs.Runs.{IsUnopened, unopened}
-use Rattle.mb_program.specs.declared.end.End.TheVariants.{Done, Output}
+use Rattle.mb_ends.specs.Lines.{unopened}
+use Rattle.mb_program.specs.Runs.{IsUnopened}
+use Rattle.mb_ends.specs.declared.end.End.TheVariants.{Done, Output}
 
 -- what all guests of a session show
 abbrev all_shown : SessionAtStart → List Seen

@@ -23,8 +23,10 @@ use Rattle.mb_files.specs.Reading.{Reading, gives, ◌>>=◌, file, images}
 use Rattle.mb_files.specs.Sources.{sources}
 use Rattle.mb_files.specs.Snapshots.{snapshots}
 use Rattle.mb_program.specs.Files.{Ordered, machine_files, session_files}
-use Rattle.mb_program.specs.Headline.{alone, machine_text, texts_from}
-use Rattle.mb_program.specs.Direct.{counts_line, steps_of_all, tallies_by}
+use Rattle.mb_program.specs.Headline.{alone, machine_text}
+use Rattle.mb_ends.specs.Texts.{texts_from}
+use Rattle.mb_program.specs.Direct.{steps_of_all, tallies_by}
+use Rattle.mb_ends.specs.Lines.{counts_line}
 pub use Rattle.mb_program.specs.Shown.{Shown, plain}
 use Rattle.mb_program.specs.Debugs.{debug_shown, debugged_files}
 use Rattle.mb_program.specs.Saves.{resume_shown, save_shown, session_of}

@@ -26,7 +26,7 @@ use Rattle.mb_program.specs.Saves.{IsSaved, IsSavedText, all_cut_to, gone_on_sho
 use Rattle.vm_snapshot.specs.Plans.{Plan}
 use Rattle.mb_program.specs.Around.{Around, Diag, Gains, GainsPart, IsPut}
 use Rattle.mb_program.specs.Direct.{IsCounted}
-use Rattle.mb_program.specs.Lines.{named, oversize_line, why_text}
+use Rattle.mb_ends.specs.Lines.{named, oversize_line, why_text}
 use Rattle.mb_program.specs.Tidy.{TidyAreSame}
 
 -- ---- commands

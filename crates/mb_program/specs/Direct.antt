@@ -1,8 +1,6 @@
 -- What is counted of the guests of a session: their steps by class, and what the board carries out of them.
-use Rattle.std.specs.Prelude.{◌≡◌, ℕ, ◌+◌, ◌*◌, ◌^◌, ◌<◌, ◌≤◌, List, [], ◌∷◌, ◌++◌, map, Option, Some, None, sum_by}
-use Rattle.std.specs.Prelude.{codes, decimal}
+use Rattle.std.specs.Prelude.{◌≡◌, ℕ, ◌+◌, ◌*◌, ◌^◌, ◌<◌, ◌≤◌, List, [], ◌∷◌, map, Option, Some, None, sum_by}
 use Rattle.mb_instr.specs.declared.registers.Plain.{Plain}
-use Rattle.mb_words.specs.Words.{Text}
 use Rattle.def_runs.specs.Marks.{trail}
 use Rattle.def_runs.specs.Native.{NativeState}
 use Rattle.def_guests.specs.Turns.{Tally, exits, prepared, steps_in, tally_of, turn_of}
@@ -24,23 +22,6 @@ tally_by guest = tally_of guest.opening guest.script guest.ram guest.steps
 
 abbrev pub tallies_by : List GuestAtStart → List Tally
 tallies_by guests = map tally_by guests
-
--- so many of a class, behind its name
-abbrev pub class_count : Text → ℕ → Text
-class_count name count = name ++ decimal count
-
--- the line of a guest
-abbrev pub counts_line : ℕ → Tally → Text
-counts_line i t = codes "guest " ++ decimal i
-    ++ class_count (codes " retired ") t.retired
-    ++ class_count (codes " privileged ") t.privileged
-    ++ class_count (codes " trapped ") t.trapped
-    ++ class_count (codes " denied ") t.denied
-    ++ class_count (codes " traced ") t.traced
-    ++ class_count (codes " entered ") t.entered
-    ++ class_count (codes " idle ") t.idle
-    ++ class_count (codes " refilled ") t.refilled
-    ++ codes "\n"
 
 -- ---- what the board carries out
 

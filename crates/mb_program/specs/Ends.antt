@@ -11,15 +11,9 @@ use Rattle.mb_files.specs.declared.fault.FileFault.TheVariants as fault
 use Rattle.mb_program.specs.Answers.{Answer, Shown, shows, oversizes, answer_to}
 use Rattle.mb_program.specs.Around.{Around, SinkSeen, Gains, GainsPart}
 use Rattle.mb_program.specs.Direct.{IsCounted}
-use Rattle.mb_program.specs.Lines.{counts_lines}
-use Rattle.mb_program.specs.declared.end.End.{End}
-use Rattle.mb_program.specs.declared.end.End.TheVariants.{Done, Counts, Differs, Words, Refused, Oversize, Unread, Output, Memory}
-
--- how a run ends where a file is not read
-abbrev pub end_by : FileFault → End
-end_by (fault.Refused name why) = Refused name why
-end_by (fault.Unread name) = Unread name
-end_by fault.Memory = Memory
+use Rattle.mb_ends.specs.Lines.{counts_lines}
+use Rattle.mb_ends.specs.declared.end.End.{End}
+use Rattle.mb_ends.specs.declared.end.End.TheVariants.{Done, Counts, Differs, Words, Refused, Oversize, Unread, Output, Memory}
 
 -- a run ends while it reads
 abbrev pub EndsAt : {A : Type 0} → Reading A → ShelfSeen → ShelfSeen → End → Type 0

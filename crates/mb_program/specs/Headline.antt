@@ -1,5 +1,5 @@
 -- What `host` promises: each guest of a session runs as if it were alone.
-use Rattle.std.specs.Prelude.{◌≡◌, ◌⊎◌, ℕ, ◌+◌, List, [], ◌∷◌, ◌++◌, All, map, Option, Some, option_map, Ok}
+use Rattle.std.specs.Prelude.{◌≡◌, ◌⊎◌, ℕ, List, [], ◌++◌, All, map, Option, Some, option_map, Ok}
 use Rattle.std.specs.Option.{option_map_or}
 use Rattle.mb_model.specs.Keeping.{Rule, rule_k}
 use Rattle.def_machine.specs.Machine.{Machine, run_of, seen_machine, start}
@@ -10,6 +10,7 @@ use Rattle.vm_guest.specs.Session.{GuestAtStart}
 use Rattle.vm_slices.specs.Fit.{Fits}
 use Rattle.mb_words.specs.Words.{Text, asked_by, hosting}
 use Rattle.mb_files.specs.Reading.{Told, end_of}
+use Rattle.mb_ends.specs.Texts.{texts_from}
 use Rattle.mb_program.specs.Files.{Ordered, session_files}
 
 -- A guest alone on a board that keeps translations by a rule: the machine after its own steps, or fewer where it halts
@@ -26,11 +27,6 @@ IsFree guest m = (end : Machine) × FreeRun guest.script guest.steps (start rule
 -- what a machine shows, and then its disk, where one is attached
 abbrev pub machine_text : ℕ → Machine → Text
 machine_text i m = outcome_text i (seen_machine m) ++ option_map_or (disk_text i) m.world.devices.disk []
-
--- a text for each, numbered from i
-abbrev pub texts_from : {A : Type 0} → (ℕ → A → Text) → ℕ → List A → Text
-texts_from text i [] = []
-texts_from text i (x ∷ xs) = text i x ++ texts_from text (i + 1) xs
 
 -- What out has gained of guests, and the status.
 pub record RunAlone (guests : List GuestAtStart) (out out_after : Option Text) (status : ℕ) : Type 0 where

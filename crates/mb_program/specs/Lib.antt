@@ -6,7 +6,6 @@ pub mod Debugs
 pub mod Saves
 pub mod Answers
 pub mod Around
-pub mod Lines
 pub mod Ends
 pub mod Tidy
 pub mod Causes

@@ -12,8 +12,6 @@ use Rattle.vm_slices.specs.declared.open_fault.OpenFault.TheVariants as open_fau
 use Rattle.mb_program.specs.Files.{Ordered}
 use Rattle.mb_program.specs.Headline.{alone}
 use Rattle.mb_program.specs.Direct.{CarriedOut, tallies_by}
-use Rattle.mb_program.specs.declared.end.End.{End}
-use Rattle.mb_program.specs.declared.end.End.TheVariants.{Oversize, Memory}
 
 -- The guests of a session that fits have run: each has the machine of its own run, what is counted of its steps is that
 -- run's, and its script is its own.
@@ -33,8 +31,3 @@ IsUnopened s open_fault.Memory = ⊤
 abbrev pub Runs : Ordered → NativeState → NativeState → Result HostState OpenFault → Type 0
 Runs s native native_after (Ok host) = HaveRun s.session host × CarriedOut s native native_after
 Runs s native native_after (Err fault) = IsUnopened s.session fault × (native_after ≡ native)
-
--- how the program ends without a host
-abbrev pub unopened : OpenFault → End
-unopened (open_fault.Oversize need have) = Oversize need have
-unopened open_fault.Memory = Memory

@@ -16,8 +16,10 @@ use Rattle.vm_snapshot.specs.Shown.{IsSnapshot, ShownGuest, snapshot_text}
 use Rattle.vm_snapshot.specs.declared.plan.SnapGuest.{SnapGuest}
 use Rattle.mb_words.specs.Words.{Text}
 use Rattle.mb_files.specs.declared.files.TheConstants.{MOST_SNAPSHOT_BYTES}
-use Rattle.mb_program.specs.Headline.{alone, machine_text, texts_from}
-use Rattle.mb_program.specs.Direct.{bounded, counts_line, steps_hosted, tallies_by}
+use Rattle.mb_program.specs.Headline.{alone, machine_text}
+use Rattle.mb_ends.specs.Texts.{texts_from}
+use Rattle.mb_program.specs.Direct.{bounded, steps_hosted, tallies_by}
+use Rattle.mb_ends.specs.Lines.{counts_line}
 use Rattle.mb_program.specs.Shown.{Shown}
 
 -- ---- save

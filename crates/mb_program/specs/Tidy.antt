@@ -4,7 +4,7 @@ use Rattle.mb_outside.specs.Sink.{Grows}
 use Rattle.mb_words.specs.Words.{Text}
 use Rattle.def_runs.specs.Tidy.{Tidy}
 use Rattle.vm_guest.specs.Session.{GuestAtStart}
-use Rattle.mb_program.specs.Headline.{texts_from}
+use Rattle.mb_ends.specs.Texts.{texts_from}
 use Rattle.mb_program.specs.Answers.{compared_text, is_same}
 use Rattle.mb_program.specs.Around.{Around}
 

@@ -11,12 +11,11 @@ ghost use Rattle.mb_program.specs.Around.{around_of};
 ghost use Rattle.mb_program.specs.Causes.{HasSaved, HostsNothing};
 ghost use Rattle.mb_program.specs.Direct.{HasRoomToRun};
 ghost use Rattle.mb_program.specs.Ends.{CommandEnds, Ends};
-ghost use Rattle.mb_program.specs.Lines.{status_of};
+ghost use Rattle.mb_ends.specs.Lines.{status_of};
 ghost use Rattle.mb_program.specs.Said.{disk_named};
 
 use crate::compared::show_compared;
 use crate::debugged::show_debugged;
-use crate::end::End;
 use crate::excerpt::show_excerpt;
 use crate::generated::show_generated;
 use crate::guest_reading::{read_debugged, read_session};
@@ -28,6 +27,7 @@ use crate::records::show_records;
 use crate::resumed::show_resumed;
 use crate::saved::show_saved;
 use mb_board::Native;
+use mb_ends::End;
 use mb_files::{image_file, snapshot_file, source_file};
 use mb_outside::{Shelf, Sink};
 use mb_words::{

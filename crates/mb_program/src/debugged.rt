@@ -19,10 +19,10 @@ ghost use Rattle.mb_program.specs.Ends.{IsGiven};
 ghost use Rattle.mb_program.specs.Headline.{machine_text};
 ghost use Rattle.mb_program.specs.Lone.{end_of, scene_of, IsAtStart};
 
-use crate::end::End;
 use crate::machine::write_machine;
 use def_guests::MONITOR_BYTES;
 use mb_board::{Board, Native};
+use mb_ends::End;
 use mb_outside::{Memory, Sink, SinkFault};
 use mb_walk::Ram;
 use std::alloc::Global;

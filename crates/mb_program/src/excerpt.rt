@@ -7,8 +7,8 @@ ghost use Rattle.mb_program.specs.Answers.{dis_shown, shows};
 ghost use Rattle.mb_program.specs.Around.{sink_seen};
 ghost use Rattle.mb_program.specs.Ends.{IsGivenUncounted};
 
-use crate::end::End;
 use crate::opening::opening_ram;
+use mb_ends::End;
 use mb_listing::list_memory;
 use mb_outside::Sink;
 use mb_srec::Image;

@@ -6,15 +6,15 @@ ghost use Rattle.mb_words.specs.Words.{workload_said};
 ghost use Rattle.vm_slices.specs.Places.{members_in};
 ghost use Rattle.vm_slices.specs.Members.{shown_of};
 ghost use Rattle.mb_program.specs.Answers.{gen_shown, shows, summary_line, summary_text};
-ghost use Rattle.mb_program.specs.Headline.{texts_from};
+ghost use Rattle.mb_ends.specs.Texts.{texts_from};
 ghost use Rattle.mb_program.specs.Direct.{HasRoomToRun};
 ghost use Rattle.mb_program.specs.Around.{sink_seen};
 ghost use Rattle.mb_program.specs.Ends.{IsGiven};
 
-use crate::end::End;
 use crate::hosted::run_session;
 use itoa::Buffer;
 use mb_board::Native;
+use mb_ends::End;
 use mb_gen::make_session;
 use mb_model::Outcome;
 use mb_outside::{Sink, SinkFault, put_all, put_more};

@@ -7,32 +7,22 @@ ghost use Rattle.vm_guest.specs.Session.{IsSession};
 ghost use Rattle.vm_slices.specs.Places.{members_in};
 ghost use Rattle.vm_slices.specs.Members.{machines_of};
 ghost use Rattle.mb_program.specs.Answers.{host_shown, if_it_fits};
-ghost use Rattle.mb_program.specs.Headline.{machine_text, texts_from};
+ghost use Rattle.mb_program.specs.Headline.{machine_text};
+ghost use Rattle.mb_ends.specs.Texts.{texts_from};
 ghost use Rattle.mb_program.specs.Direct.{HasRoomToRun};
 ghost use Rattle.mb_program.specs.Around.{sink_seen};
 ghost use Rattle.mb_program.specs.Ends.{IsGiven};
-ghost use Rattle.mb_program.specs.Runs.{Runs, unopened};
+ghost use Rattle.mb_program.specs.Runs.{Runs};
 ghost use Rattle.mb_program.specs.Said.{ordered_said};
 
-use crate::end::End;
 use crate::machine::write_machine;
 use crate::ordered::OrderedSession;
 use mb_board::Native;
+use mb_ends::End;
 use mb_outside::{Sink, SinkFault};
 use mb_script::Turn;
 use std::alloc::Global;
 use vm_slices::{Host, OpenFault, Session};
-
-impl From<OpenFault> for End {
-    ghost from_gives = { λ given end. end ≡ unopened given };
-
-    fn from(fault: OpenFault) -> End {
-        match fault {
-            OpenFault::Memory => End::Memory,
-            OpenFault::Oversize { need, have } => End::Oversize { need, have },
-        }
-    }
-}
 
 /// All guests of a session on their board, after their runs: first these turns, and then rounds. What the board
 /// carried out is counted.

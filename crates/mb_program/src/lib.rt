@@ -12,8 +12,6 @@ mod bare_machine;
 mod command;
 mod compared;
 mod debugged;
-mod diagnosis;
-mod end;
 mod excerpt;
 mod generated;
 mod guest_reading;

@@ -18,9 +18,9 @@ ghost use Rattle.mb_program.specs.Disks.{with_disk};
 ghost use Rattle.mb_program.specs.Ends.{IsGivenUncounted};
 ghost use Rattle.mb_program.specs.Said.{opening_said};
 
-use crate::end::End;
 use crate::named::Parts;
 use mb_board::Board;
+use mb_ends::End;
 use mb_model::Outcome;
 use mb_outside::{Memory, Sink, SinkFault};
 use mb_report::write_outcome;

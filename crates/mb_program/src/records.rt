@@ -6,7 +6,7 @@ ghost use Rattle.mb_program.specs.Answers.{asm_shown, shows};
 ghost use Rattle.mb_program.specs.Around.{sink_seen};
 ghost use Rattle.mb_program.specs.Ends.{IsGivenUncounted};
 
-use crate::end::End;
+use mb_ends::End;
 use mb_outside::{Sink, put_all};
 use mb_srec::{Image, write_records};
 use std::alloc::Global;

@@ -14,9 +14,9 @@ ghost use Rattle.mb_program.specs.Saves.{resume_shown, seat_of, session_of};
 ghost use Rattle.mb_program.specs.Saved.{CanAllBecome, CanBecome, HasNoDisk, RunsOn};
 ghost use Rattle.mb_program.specs.Saved.{all_become, become, disked, left_of, left_said};
 
-use crate::end::End;
 use crate::hosted::write_outcomes;
 use mb_board::Native;
+use mb_ends::End;
 use mb_outside::{Memory, Sink};
 use mb_saved::SavedGuest;
 use mb_srec::Image;

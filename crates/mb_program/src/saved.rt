@@ -10,15 +10,15 @@ ghost use Rattle.vm_snapshot.specs.Shown.{snapshot_text, CanBeTold};
 ghost use Rattle.mb_program.specs.Answers.{if_it_fits};
 ghost use Rattle.mb_program.specs.Around.{sink_seen};
 ghost use Rattle.mb_program.specs.Direct.{HasRoomToRun};
-ghost use Rattle.mb_program.specs.Headline.{texts_from};
+ghost use Rattle.mb_ends.specs.Texts.{texts_from};
 ghost use Rattle.mb_program.specs.Ends.{IsGiven};
-ghost use Rattle.mb_program.specs.Lines.{status_of};
+ghost use Rattle.mb_ends.specs.Lines.{status_of};
 ghost use Rattle.mb_program.specs.Saves.{save_shown, turn_each, IsSaved};
 ghost use Rattle.mb_program.specs.Saved.{AreGuests, RunsTo, kept_by, shown_by, shown_text};
 
-use crate::end::End;
 use arrayvec::ArrayVec;
 use mb_board::Native;
+use mb_ends::End;
 use mb_model::{GUEST_CAPACITY, Kept};
 use mb_outside::{Memory, Sink, SinkFault};
 use mb_script::Turn;

@@ -8,8 +8,8 @@ ghost use Rattle.mb_program.specs.Headline.{Headline};
 ghost use Rattle.mb_program.specs.Causes.{Causes};
 
 use crate::command::run_words;
-use crate::diagnosis::{status, tell};
 use mb_board::Native;
+use mb_ends::{status, tell};
 use mb_outside::{Shelf, Sink};
 use std::alloc::Global;
 

@@ -4,7 +4,7 @@ use Rattle.mb_files.specs.Reading.{gives}
 use Rattle.mb_program.specs.Files.{Ordered, session_files}
 use Rattle.mb_program.specs.Answers.{if_it_fits}
 use Rattle.mb_program.specs.Around.{Around, around_of}
-use Rattle.mb_program.specs.Lines.{status_of}
+use Rattle.mb_ends.specs.Lines.{status_of}
 use Rattle.mb_program.specs.Said.{ordered_said}
 use Rattle.mb_program.specs.Saves.{save_shown}
 use Rattle.mb_program.proofs.EndLemmas.{by_answer, by_files, has_saved, none_read}

@@ -10,7 +10,7 @@ use Rattle.mb_program.specs.Ends.{IsGiven}
 use Rattle.mb_program.specs.Said.{ordered_said}
 use Rattle.mb_program.proofs.CompareLemmas.{compared_cut, compared_other, compared_same, found_so, machine_for_each, member_for_each}
 use Rattle.mb_program.proofs.ShowLemmas.{not_opened}
-use Rattle.mb_program.specs.declared.end.End.{End}
+use Rattle.mb_ends.specs.declared.end.End.{End}
 use Rattle.mb_program.proofs.compared.show_compared.Goals as goal
 
 pub returns-in-Err-run_session : goal.returns-in-Err-run_session

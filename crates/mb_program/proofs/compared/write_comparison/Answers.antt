@@ -5,12 +5,12 @@ use Rattle.std.specs.Vec.Iter.{into_iter_items, into_iter_len}
 use Rattle.std.proofs.lemmas.Result.{err_from_is_err_and}
 use Rattle.mb_outside.specs.Prints.{Printed}
 use Rattle.vm_slices.specs.Places.{members_in}
-use Rattle.mb_program.specs.Headline.{texts_from}
+use Rattle.mb_ends.specs.Texts.{texts_from}
 use Rattle.mb_program.specs.Answers.{compared_text}
 use Rattle.mb_program.specs.Compares.{ahead_of, same_each}
 use Rattle.mb_program.specs.declared.bare_machine.BareMachine.{BareMachine}
 use Rattle.mb_program.proofs.CompareLemmas.{all_found, left_behind, next_found, still_all}
-use Rattle.mb_program.proofs.TextLemmas.{cut_more, printed_more}
+use Rattle.mb_ends.proofs.TextLemmas.{cut_more, printed_more}
 use Rattle.mb_program.proofs.compared.write_comparison.Goals as goal
 
 pub returns-in_err-write_compared-clause-printed : goal.returns-in_err-write_compared-clause-printed

@@ -10,7 +10,7 @@ use Rattle.mb_program.specs.Around.{sink_seen}
 use Rattle.mb_program.specs.Ends.{IsGiven}
 use Rattle.mb_program.proofs.MachineLemmas.{seen_so}
 use Rattle.mb_program.proofs.SummaryLemmas.{not_hosted, summary_cut, summary_done}
-use Rattle.mb_program.specs.declared.end.End.{End}
+use Rattle.mb_ends.specs.declared.end.End.{End}
 use Rattle.mb_program.proofs.generated.show_generated.Goals as goal
 
 pub returns-in-Err : goal.returns-in-Err

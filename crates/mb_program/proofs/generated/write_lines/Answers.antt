@@ -3,7 +3,7 @@ use Rattle.mb_model.specs.Seen.{seen_of}
 use Rattle.vm_slices.specs.Members.{shown_of}
 use Rattle.vm_slices.specs.Places.{members_in}
 use Rattle.mb_program.specs.Answers.{summary_line}
-use Rattle.mb_program.proofs.TextLemmas.{cut_more, printed_more}
+use Rattle.mb_ends.proofs.TextLemmas.{cut_more, printed_more}
 use Rattle.mb_program.proofs.generated.write_lines.Goals as goal
 
 pub loop-index-preserved : goal.loop-index-preserved

@@ -3,7 +3,7 @@ use Rattle.mb_outside.specs.Prints.{Printed}
 use Rattle.vm_slices.specs.Places.{members_in}
 use Rattle.vm_slices.specs.Members.{shown_of}
 use Rattle.mb_program.specs.Answers.{summary_line}
-use Rattle.mb_program.specs.Headline.{texts_from}
+use Rattle.mb_ends.specs.Texts.{texts_from}
 use Rattle.mb_program.proofs.generated.write_lines.Given as goal
 
 abbrev pub invariant-loop-index : goal.invariant-loop-index

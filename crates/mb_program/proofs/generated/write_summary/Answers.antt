@@ -3,7 +3,7 @@ use Rattle.mb_outside.proofs.PrintLemmas.{prints_more}
 use Rattle.vm_slices.specs.Members.{shown_of}
 use Rattle.vm_slices.specs.Places.{members_in}
 use Rattle.mb_program.specs.Answers.{summary_line}
-use Rattle.mb_program.specs.Headline.{texts_from}
+use Rattle.mb_ends.specs.Texts.{texts_from}
 use Rattle.mb_program.proofs.generated.write_summary.Goals as goal
 
 pub returns : goal.returns

@@ -6,7 +6,7 @@ use Rattle.mb_program.specs.Direct.{CarriedOut}
 use Rattle.mb_program.specs.Ends.{IsGiven}
 use Rattle.mb_program.specs.Said.{ordered_said}
 use Rattle.mb_program.proofs.ShowLemmas.{hosted_cut, hosted_done, not_opened}
-use Rattle.mb_program.specs.declared.end.End.{End}
+use Rattle.mb_ends.specs.declared.end.End.{End}
 use Rattle.mb_program.proofs.hosted.show_hosted.Goals as goal
 
 pub returns-in-Err : goal.returns-in-Err

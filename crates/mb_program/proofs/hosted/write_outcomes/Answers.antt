@@ -5,7 +5,7 @@ use Rattle.vm_slices.specs.Members.{machines_of}
 use Rattle.vm_slices.specs.Places.{members_in}
 use Rattle.mb_program.specs.Headline.{machine_text}
 use Rattle.mb_program.proofs.MachineLemmas.{machine_at, text_at}
-use Rattle.mb_program.proofs.TextLemmas.{cut_as, cut_more, printed_as, printed_more}
+use Rattle.mb_ends.proofs.TextLemmas.{cut_as, cut_more, printed_as, printed_more}
 use Rattle.mb_program.proofs.hosted.write_outcomes.Goals as goal
 
 pub loop-index-preserved : goal.loop-index-preserved

@@ -2,7 +2,8 @@ use Rattle.std.proofs.Common.{take}
 use Rattle.mb_outside.specs.Prints.{Printed}
 use Rattle.vm_slices.specs.Places.{members_in}
 use Rattle.vm_slices.specs.Members.{machines_of}
-use Rattle.mb_program.specs.Headline.{machine_text, texts_from}
+use Rattle.mb_program.specs.Headline.{machine_text}
+use Rattle.mb_ends.specs.Texts.{texts_from}
 use Rattle.mb_program.proofs.hosted.write_outcomes.Given as goal
 
 abbrev pub invariant-loop-index : goal.invariant-loop-index

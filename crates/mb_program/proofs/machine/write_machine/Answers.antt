@@ -8,7 +8,7 @@ use Rattle.mb_model.specs.Seen.{seen_of}
 use Rattle.mb_report.specs.Text.{outcome_text}
 use Rattle.vm_disk.specs.Disk.{DiskState}
 use Rattle.vm_disk.specs.Text.{disk_text}
-use Rattle.mb_program.proofs.TextLemmas.{printed_before}
+use Rattle.mb_ends.proofs.TextLemmas.{printed_before}
 use Rattle.mb_program.proofs.machine.write_machine.Goals as goal
 
 pub returns-in_err-write_outcome : goal.returns-in_err-write_outcome

@@ -4,7 +4,7 @@ use Rattle.mb_program.specs.Answers.{if_it_fits}
 use Rattle.mb_program.specs.Around.{sink_seen}
 use Rattle.mb_program.specs.Ends.{IsGiven}
 use Rattle.mb_program.specs.Saves.{resume_shown, session_of}
-use Rattle.mb_program.specs.declared.end.End.{End}
+use Rattle.mb_ends.specs.declared.end.End.{End}
 use Rattle.mb_program.proofs.ShowLemmas.{not_opened, resumed_cut, resumed_done}
 use Rattle.mb_program.proofs.resumed.show_resumed.Goals as goal
 

@@ -3,7 +3,7 @@ use Rattle.mb_program.specs.Answers.{if_it_fits}
 use Rattle.mb_program.specs.Around.{sink_seen}
 use Rattle.mb_program.specs.Ends.{IsGiven}
 use Rattle.mb_program.specs.Saves.{save_shown}
-use Rattle.mb_program.specs.declared.end.End.{End}
+use Rattle.mb_ends.specs.declared.end.End.{End}
 use Rattle.mb_program.proofs.SaveLemmas.{is_saved}
 use Rattle.mb_program.proofs.ShowLemmas.{none_written, not_opened, saved_cut, saved_done}
 use Rattle.mb_program.proofs.saved.show_saved.Goals as goal

@@ -5,7 +5,7 @@ use Rattle.vm_slices.specs.Places.{members_in}
 use Rattle.vm_snapshot.specs.Shown.{CanBeTold}
 use Rattle.mb_program.specs.Saved.{shown_by, shown_text}
 use Rattle.mb_program.proofs.SaveLemmas.{shown_there, some_holds, told_all, told_more}
-use Rattle.mb_program.proofs.TextLemmas.{cut_more, printed_more}
+use Rattle.mb_ends.proofs.TextLemmas.{cut_more, printed_more}
 use Rattle.mb_program.proofs.saved.write_guests.Goals as goal
 
 pub loop-index-preserved : goal.loop-index-preserved

@@ -3,7 +3,7 @@ use Rattle.std.specs.Prelude.{All}
 use Rattle.mb_outside.specs.Prints.{Printed}
 use Rattle.vm_slices.specs.Places.{members_in}
 use Rattle.vm_snapshot.specs.Shown.{CanBeTold}
-use Rattle.mb_program.specs.Headline.{texts_from}
+use Rattle.mb_ends.specs.Texts.{texts_from}
 use Rattle.mb_program.specs.Saved.{shown_by, shown_text}
 use Rattle.mb_program.proofs.saved.write_guests.Given as goal
 

@@ -2,10 +2,10 @@ use Rattle.std.proofs.lemmas.Result.{err_from_is_err_and}
 use Rattle.mb_outside.proofs.PrintLemmas.{part_more}
 use Rattle.vm_slices.specs.Places.{members_in}
 use Rattle.vm_snapshot.specs.Shown.{head_text}
-use Rattle.mb_program.specs.Headline.{texts_from}
+use Rattle.mb_ends.specs.Texts.{texts_from}
 use Rattle.mb_program.specs.Saved.{shown_by, shown_text}
 use Rattle.mb_program.proofs.SaveLemmas.{snapshot_is}
-use Rattle.mb_program.proofs.TextLemmas.{printed_before}
+use Rattle.mb_ends.proofs.TextLemmas.{printed_before}
 use Rattle.mb_program.proofs.saved.write_snapshot.Goals as goal
 
 pub returns-in_err-write_head-clause-prints : goal.returns-in_err-write_head-clause-prints

@@ -14,7 +14,7 @@ use Rattle.mb_program.specs.Headline.{machine_text}
 use Rattle.mb_program.specs.Lone.{end_of, scene_of}
 use Rattle.mb_program.proofs.DebugLemmas.{small_so}
 use Rattle.mb_program.proofs.MachineLemmas.{text_at}
-use Rattle.mb_program.proofs.TextLemmas.{printed_before}
+use Rattle.mb_ends.proofs.TextLemmas.{printed_before}
 use Rattle.mb_program.proofs.debugged.LoneGuest.debug.Goals as goal
 
 pub returns-in_err-run_commands-clause-prints : goal.returns-in_err-run_commands-clause-prints
