@@ -6,7 +6,7 @@ use crate::word::Name;
 use std::marker::Model;
 
 /// What an expression adds or subtracts.
-#[derive(Clone, Copy, Debug, PartialEq, Eq)]
+#[derive(Clone, Copy)]
 pub enum Term {
     /// A number of at most 32 bits.
     Number(u32),
@@ -19,14 +19,14 @@ pub enum Term {
 }
 
 /// A term with its sign.
-#[derive(Clone, Copy, Debug, PartialEq, Eq)]
+#[derive(Clone, Copy)]
 pub struct SignedTerm {
     pub is_negative: bool,
     pub term: Term,
 }
 
 /// The sum of its terms, of which there is at least one.
-#[derive(Debug, Drop)]
+#[derive(Drop)]
 pub struct Expression {
     terms: Vec<SignedTerm>,
 }

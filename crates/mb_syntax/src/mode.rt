@@ -3,14 +3,14 @@
 //! `E` is what stands for an expression: the expression itself, or its value.
 
 /// `.W` or `.L` of an address, a displacement or an index.
-#[derive(Clone, Copy, Debug, PartialEq, Eq)]
+#[derive(Clone, Copy)]
 pub enum Width {
     Word,
     Long,
 }
 
 /// What an index is multiplied by.
-#[derive(Clone, Copy, Debug, PartialEq, Eq)]
+#[derive(Clone, Copy)]
 pub enum Scale {
     One,
     Two,
@@ -19,7 +19,7 @@ pub enum Scale {
 }
 
 /// `Xn.W*k` or `Xn.L*k`; the scale is one where it is left out.
-#[derive(Clone, Copy, Debug, PartialEq, Eq)]
+#[derive(Clone, Copy)]
 pub struct Index {
     /// Whether the register is an address register, A0 to A7.
     pub is_address: bool,
@@ -33,7 +33,7 @@ pub struct Index {
 }
 
 /// The base of a full form.
-#[derive(Clone, Copy, Debug, PartialEq, Eq)]
+#[derive(Clone, Copy)]
 pub enum Base {
     /// `An`.
     Address(u8),
@@ -46,14 +46,14 @@ pub enum Base {
 }
 
 /// A displacement of a full form, a long where it has no width of its own.
-#[derive(Debug, Drop)]
+#[derive(Drop)]
 pub struct Displacement<E> {
     pub value: E,
     pub width: Width,
 }
 
 /// Where a full form reads an address from memory.
-#[derive(Clone, Copy, Debug, PartialEq, Eq)]
+#[derive(Clone, Copy)]
 pub enum Indirection {
     /// Nowhere.
     Direct,
@@ -64,7 +64,7 @@ pub enum Indirection {
 }
 
 /// `(bd,An,Xn)`, `([bd,An,Xn],od)` or `([bd,An],Xn,od)`. A register that is left out is a dropped one of number 0.
-#[derive(Debug, Drop)]
+#[derive(Drop)]
 pub struct FullForm<E> {
     /// Where the base is PC, the value is the target's address.
     pub displacement: Option<Displacement<E>>,
@@ -76,7 +76,7 @@ pub struct FullForm<E> {
 }
 
 /// An addressing mode as it is written. Register numbers are 0 to 7.
-#[derive(Debug, Drop)]
+#[derive(Drop)]
 pub enum Mode<E> {
     /// `Dn`.
     Data(u8),

@@ -5,7 +5,7 @@ use crate::word::Name;
 use mb_instr::{Caches, ControlRegister};
 
 /// A bit field's offset or width.
-#[derive(Debug, Drop)]
+#[derive(Drop)]
 pub enum FieldNumber<E> {
     /// `Dn`.
     Data(u8),
@@ -13,14 +13,14 @@ pub enum FieldNumber<E> {
 }
 
 /// `{o:w}`.
-#[derive(Debug, Drop)]
+#[derive(Drop)]
 pub struct BitField<E> {
     pub offset: FieldNumber<E>,
     pub width: FieldNumber<E>,
 }
 
 /// An operand as it is written. `E` is what stands for an expression.
-#[derive(Debug, Drop)]
+#[derive(Drop)]
 pub enum Operand<E> {
     Mode(Mode<E>),
     /// `ea{o:w}`.

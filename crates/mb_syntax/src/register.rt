@@ -3,7 +3,7 @@
 use mb_instr::ControlRegister;
 
 /// What a name in either case says that is a register's. Numbers are 0 to 7.
-#[derive(Clone, Copy, Debug, PartialEq, Eq)]
+#[derive(Clone, Copy)]
 pub enum Register {
     /// `D0` to `D7`.
     Data(u8),

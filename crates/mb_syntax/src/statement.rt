@@ -5,7 +5,7 @@ use crate::operand::Operand;
 use crate::word::Name;
 
 /// What stands behind the dot of an operation's name, in either case.
-#[derive(Clone, Copy, Debug, PartialEq, Eq)]
+#[derive(Clone, Copy)]
 pub enum SizeLetter {
     /// `.B`.
     Byte,
@@ -18,7 +18,7 @@ pub enum SizeLetter {
 }
 
 /// An instruction or a directive.
-#[derive(Debug, Drop)]
+#[derive(Drop)]
 pub struct Operation {
     pub name: Name,
     pub size: Option<SizeLetter>,

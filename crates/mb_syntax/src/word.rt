@@ -8,7 +8,7 @@ use mb_instr::Caches;
 
 /// A name, or a text with its quotation marks, by where it stands in its line. Places count from 0, and
 /// `end` is the place behind its last byte.
-#[derive(Clone, Copy, Debug, PartialEq, Eq)]
+#[derive(Clone, Copy)]
 pub struct Name {
     pub start: u32,
     pub end: u32,
@@ -29,7 +29,7 @@ impl Name {
 }
 
 /// What a token of a line says.
-#[derive(Clone, Copy, Debug, PartialEq, Eq)]
+#[derive(Clone, Copy)]
 pub enum Word {
     /// A name that is none of the following.
     Name(Name),

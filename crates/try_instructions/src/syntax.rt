@@ -96,14 +96,16 @@ const LINE: &[u8] = b"here: MOVE.B there.W,(A3)+ ; and there";
 
 /// Whether operands are a short address, and a register that steps.
 fn are_short_and_step(operands: &[Operand<Expression>]) -> bool {
-    let width = Some(Width::Word);
-    match operands {
+    matches!(
+        operands,
         [
-            Operand::Mode(Mode::Absolute { width: short, .. }),
+            Operand::Mode(Mode::Absolute {
+                width: Some(Width::Word),
+                ..
+            }),
             Operand::Mode(Mode::PostIncrement(3)),
-        ] => *short == width,
-        _ => false,
-    }
+        ]
+    )
 }
 
 /// Whether a statement of that line has all its parts.
@@ -113,7 +115,7 @@ fn has_parts(statement: &Statement) -> bool {
     };
     label.bytes(LINE) == b"here".as_slice()
         && operation.name.bytes(LINE) == b"MOVE".as_slice()
-        && operation.size == Some(SizeLetter::Byte)
+        && matches!(operation.size, Some(SizeLetter::Byte))
         && are_short_and_step(&operation.operands)
 }
 
