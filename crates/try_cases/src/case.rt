@@ -1,24 +1,14 @@
 //! A case.
 
 use crate::chunk::{Chunk, UnsaidBits};
-use crate::registers::Registers;
-use std::fmt;
-
-/// What a case is told by.
-#[derive(Drop)]
-pub struct Name {
-    /// Its number in its file.
-    pub number: u32,
-    /// Its row of the table of instructions, or what it is a case of, and after a dot its form or size.
-    pub kind: String,
-    /// The digits of the words of its instructions.
-    pub words: String,
-}
+use crate::registers::{COUNT, Registers};
+use std::alloc::Global;
 
 /// A machine before one instruction or a few, and the machine after them as another machine had it.
 #[derive(Drop)]
 pub struct Case {
-    pub name: Name,
+    /// The number of its line.
+    pub line: u32,
     /// What stands in RAM at first, later chunks over earlier ones. Code that stands there too gives the machine its
     /// registers.
     pub image: Vec<Chunk>,
@@ -36,9 +26,19 @@ pub struct Case {
     pub unsaid_bits: Vec<UnsaidBits>,
 }
 
-impl fmt::Display for Name {
-    fn fmt<W: fmt::Write>(&self, f: &mut fmt::Formatter<W>) -> fmt::Result {
-        write!(f, "{} {} {}", self.number, self.kind, self.words)
+impl Case {
+    /// A case of which nothing has been read.
+    pub fn new(alloc: Global, line: u32) -> Case {
+        Case {
+            line,
+            image: Vec::new(alloc),
+            steps: 0,
+            interrupted: false,
+            after: [0; COUNT],
+            unsaid: [0; COUNT],
+            changes: Vec::new(alloc),
+            unsaid_bits: Vec::new(alloc),
+        }
     }
 }
 

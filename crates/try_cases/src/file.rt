@@ -5,23 +5,15 @@ ghost use Rattle.try_cases.specs.Files.{count_of, is_case};
 
 use crate::case::Case;
 use crate::fault::CaseFault;
-use crate::head::Form;
-use crate::reading::read_case;
-use mb_lines::Lines;
+use crate::reading::{Form, read_case};
+use mb_lines::{Line, Lines};
 use std::alloc::{AllocError, Global};
-use std::fmt;
 
 /// A line that is no case, though it is no comment.
-#[derive(Drop)]
+#[derive(Clone, Copy)]
 pub struct BadLine {
     pub number: u32,
     pub fault: CaseFault,
-}
-
-impl fmt::Display for BadLine {
-    fn fmt<W: fmt::Write>(&self, f: &mut fmt::Formatter<W>) -> fmt::Result {
-        write!(f, "line {}: {}", self.number, self.fault)
-    }
 }
 
 /// What a file has: its cases, and the lines that are none.
@@ -38,28 +30,25 @@ fn is_case(characters: &[u8]) -> bool
     !matches!(characters, [b'#', ..])
 }
 
-fn read_line(alloc: Global, form: Form, characters: &[u8]) -> Result<Case, CaseFault> {
-    match std::str::from_utf8(characters) {
-        Ok(line) => read_case(alloc, line, form),
+fn read_line(alloc: Global, form: Form, line: Line<'_>) -> Result<Case, CaseFault> {
+    match std::str::from_utf8(line.characters) {
+        Ok(text) => read_case(alloc, form, line.number, text),
         Err(_) => Err(CaseFault::Text),
     }
 }
 
 impl CaseFile {
     /// Adds a line, as a case or as none.
-    fn add_line(
-        &mut self,
-        alloc: Global,
-        form: Form,
-        number: u32,
-        characters: &[u8],
-    ) -> Result<(), AllocError>
+    fn add_line(&mut self, alloc: Global, form: Form, line: Line<'_>) -> Result<(), AllocError>
         ensures { IfOk result (λ _. vec_len self.new.cases + vec_len self.new.bad
             ≡ vec_len self.old.cases + vec_len self.old.bad + 1) }
     {
-        match read_line(alloc, form, characters) {
+        match read_line(alloc, form, line) {
             Ok(case) => self.cases.push(case)?,
-            Err(fault) => self.bad.push(BadLine { number, fault })?,
+            Err(fault) => self.bad.push(BadLine {
+                number: line.number,
+                fault,
+            })?,
         }
         Ok(())
     }
@@ -77,7 +66,7 @@ pub fn read_file(alloc: Global, form: Form, text: &[u8]) -> Result<CaseFile, All
     let mut lines = Lines::new(text);
     while let Some(line) = lines.next_line() {
         if is_case(line.characters) {
-            file.add_line(alloc, form, line.number, line.characters)?;
+            file.add_line(alloc, form, line)?;
         }
     }
     Ok(file)

@@ -12,49 +12,32 @@ ghost use Rattle.try_cases.specs.Passed.{Passed};
 mod bench;
 mod case;
 mod chunk;
-mod code;
 mod difference;
 mod fault;
-mod fields;
 mod file;
-mod head;
 mod machine;
 mod memory;
 mod reading;
 mod registers;
 mod single;
 mod system;
+mod words;
 
 use anyhow::{anyhow, ensure};
 use bench::Bench;
-use case::{Case, Name};
-use difference::Difference;
+use case::Case;
 use file::{BadLine, CaseFile, read_file};
-use head::Form;
+use reading::Form;
 use std::rt::Files;
 use std::{fmt, fs, io};
 
-/// A case that does not pass.
-#[derive(Drop)]
-struct Failed<'a> {
-    file: &'a str,
-    case: &'a Name,
-    found: Difference,
+/// Tells of a line of a file what is wrong with it.
+fn tell(rt: &impl Print, file: &str, line: u32, what: &impl fmt::Display) -> io::Result<()> {
+    println!(rt; "{file} line {line}: {what}")
 }
 
-impl fmt::Display for Failed<'_> {
-    fn fmt<W: fmt::Write>(&self, f: &mut fmt::Formatter<W>) -> fmt::Result {
-        write!(f, "{} {}: {}", self.file, self.case, self.found)
-    }
-}
-
-/// Tells of a case what is first found to be another.
-fn tell(rt: &impl Print, file: &str, case: &Name, found: Difference) -> io::Result<()> {
-    let failed = Failed { file, case, found };
-    println!(rt; "{failed}")
-}
-
-/// Runs cases one after the other, and tells those that do not pass: how many pass.
+/// Runs cases one after the other, and tells of those that do not pass what is first found to be another: how many
+/// pass.
 fn run_cases(rt: &impl Print, file: &str, bench: &mut Bench, cases: &[Case]) -> io::Result<usize>
     ensures passed { IfOk result (Passed cases.now) }
     ensures among { IfOk result (λ passed. passed ≤ length cases.now) }
@@ -63,10 +46,18 @@ fn run_cases(rt: &impl Print, file: &str, bench: &mut Bench, cases: &[Case]) -> 
     for case in cases {
         match bench.try_case(case) {
             None => passed += 1,
-            Some(found) => tell(rt, file, &case.name, found)?,
+            Some(found) => tell(rt, file, case.line, &found)?,
         }
     }
     Ok(passed)
+}
+
+/// Tells the lines of a file that are no case.
+fn tell_bad(rt: &impl Print, file: &str, lines: &[BadLine]) -> io::Result<()> {
+    for line in lines {
+        tell(rt, file, line.number, &line.fault)?;
+    }
+    Ok(())
 }
 
 /// How many of a file's cases pass, and how many of its lines do not: cases, and lines that are none.
@@ -76,44 +67,8 @@ struct Tally {
     failed: usize,
 }
 
-impl Tally {
-    /// Of two files.
-    fn and(self, other: Tally) -> Tally {
-        Tally {
-            passed: self.passed.saturating_add(other.passed),
-            failed: self.failed.saturating_add(other.failed),
-        }
-    }
-}
-
-/// What a file has.
-fn contents_of(
-    rt: &(impl Files + AllocGlobal),
-    form: Form,
-    path: &str,
-) -> anyhow::Result<CaseFile> {
-    let text = fs::read(rt, path)?;
-    ensure!(text.len() < 1 << 31, "{path} is too long");
-    Ok(read_file(rt.alloc(), form, &text)?)
-}
-
-/// Tells the lines of a file that are no case.
-fn tell_bad(rt: &impl Print, name: &str, lines: &[BadLine]) -> io::Result<()> {
-    for line in lines {
-        println!(rt; "{name} {line}")?;
-    }
-    Ok(())
-}
-
 /// Runs the cases of a file, and tells what does not pass.
-fn run_file(
-    rt: &(impl Files + Print + AllocGlobal),
-    form: Form,
-    name: &str,
-    path: &str,
-    bench: &mut Bench,
-) -> anyhow::Result<Tally> {
-    let file = contents_of(rt, form, path)?;
+fn run_file(rt: &impl Print, name: &str, file: &CaseFile, bench: &mut Bench) -> io::Result<Tally> {
     tell_bad(rt, name, &file.bad)?;
     let passed = run_cases(rt, name, bench, &file.cases)?;
     println!(rt; "{name}: {passed} passed")?;
@@ -121,12 +76,37 @@ fn run_file(
     Ok(Tally { passed, failed })
 }
 
+/// What a file has.
+fn contents_of(
+    rt: &(impl Files + AllocGlobal),
+    path: &str,
+    form: Form,
+) -> anyhow::Result<CaseFile> {
+    let text = fs::read(rt, path)?;
+    ensure!(text.len() < 1 << 31, "{path} is too long");
+    Ok(read_file(rt.alloc(), form, &text)?)
+}
+
+/// The files of cases: their names, where they are, and how their lines are written.
+static FILES: [(&str, &str, Form); 3] = [
+    ("plain", "plain.txt", Form::Single),
+    ("traps", "traps.txt", Form::Single),
+    ("system", "system.txt", Form::System),
+];
+
 /// Runs all files.
 fn run_all(rt: &(impl Files + Print + AllocGlobal), bench: &mut Bench) -> anyhow::Result<Tally> {
-    let plain = run_file(rt, Form::Single, "plain", "plain.txt", bench)?;
-    let traps = run_file(rt, Form::Single, "traps", "traps.txt", bench)?;
-    let system = run_file(rt, Form::System, "system", "system.txt", bench)?;
-    Ok(plain.and(traps).and(system))
+    let mut all = Tally {
+        passed: 0,
+        failed: 0,
+    };
+    for &(name, path, form) in &FILES {
+        let file = contents_of(rt, path, form)?;
+        let tally = run_file(rt, name, &file, bench)?;
+        all.passed = all.passed.saturating_add(tally.passed);
+        all.failed = all.failed.saturating_add(tally.failed);
+    }
+    Ok(all)
 }
 
 fn main(rt: HostRuntime) -> anyhow::Result<()> {

@@ -1,94 +1,85 @@
-//! What stands in RAM.
+//! What stands in RAM. `None` also where memory runs out.
 
+use crate::case::Case;
 use crate::chunk::{Chunk, UnsaidBits};
-use crate::code::add_long;
-use crate::fault::CaseFault;
-use crate::fields::{read_bytes, read_long, split_mask};
-use std::alloc::{AllocError, Global};
+use crate::words::{read_bytes, read_long, split_mask};
+use std::alloc::Global;
 
-/// Bytes in RAM, later ones over earlier ones, and which of their bits may be either.
-#[derive(Drop)]
-pub struct Stretches {
-    pub chunks: Vec<Chunk>,
-    pub unsaid: Vec<UnsaidBits>,
+/// Adds bytes from an address on, all of which are in RAM.
+pub fn add(chunks: &mut Vec<Chunk>, at: u32, bytes: Vec<u8>) -> Option<()> {
+    chunks.push(Chunk::new(at, bytes)?).ok()
 }
 
-/// Longs as bytes.
-fn bytes_of(alloc: Global, longs: &[u32]) -> Result<Vec<u8>, AllocError> {
-    let mut bytes = Vec::new(alloc);
+/// The two words of a long.
+pub fn halves(long: u32) -> [u16; 2] {
+    [(long / 0x1_0000) as u16, (long % 0x1_0000) as u16]
+}
+
+/// Words, one behind the other.
+pub fn put_words(bytes: &mut Vec<u8>, words: &[u16]) -> Option<()> {
+    for word in words {
+        bytes.extend_from_slice(&word.to_be_bytes()).ok()?;
+    }
+    Some(())
+}
+
+/// Longs, one behind the other.
+pub fn put_longs(bytes: &mut Vec<u8>, longs: &[u32]) -> Option<()> {
     for long in longs {
-        add_long(&mut bytes, *long)?;
+        bytes.extend_from_slice(&long.to_be_bytes()).ok()?;
     }
-    Ok(bytes)
+    Some(())
 }
 
-/// A mask of so many bytes; where there is none it has no byte.
-fn read_mask(alloc: Global, digits: Option<&str>, len: usize) -> Result<Vec<u8>, CaseFault> {
-    let Some(digits) = digits else {
-        return Ok(Vec::new(alloc));
-    };
-    let mask = read_bytes(alloc, digits)?;
-    if mask.len() == len {
-        Ok(mask)
-    } else {
-        Err(CaseFault::Mask)
-    }
+/// Adds words from an address on.
+pub fn add_words(alloc: Global, chunks: &mut Vec<Chunk>, at: u32, words: &[u16]) -> Option<()> {
+    let mut bytes = Vec::new(alloc);
+    put_words(&mut bytes, words)?;
+    add(chunks, at, bytes)
 }
 
-impl Stretches {
-    /// Nothing.
-    pub fn new(alloc: Global) -> Stretches {
-        Stretches {
-            chunks: Vec::new(alloc),
-            unsaid: Vec::new(alloc),
-        }
-    }
+/// Adds longs from an address on.
+pub fn add_longs(alloc: Global, chunks: &mut Vec<Chunk>, at: u32, longs: &[u32]) -> Option<()> {
+    let mut bytes = Vec::new(alloc);
+    put_longs(&mut bytes, longs)?;
+    add(chunks, at, bytes)
+}
 
-    /// Adds bytes from an address on.
-    pub fn add(&mut self, at: u32, bytes: Vec<u8>) -> Result<(), CaseFault> {
-        let chunk = Chunk::new(at, bytes).ok_or(CaseFault::Outside)?;
-        self.chunks.push(chunk)?;
-        Ok(())
-    }
+/// Adds `ADDRESS:BYTES`.
+pub fn add_stretch(alloc: Global, chunks: &mut Vec<Chunk>, word: &str) -> Option<()> {
+    let (at, digits) = word.split_once(':')?;
+    add(chunks, read_long(at)?, read_bytes(alloc, digits)?)
+}
 
-    /// Adds longs from an address on.
-    pub fn add_longs(&mut self, alloc: Global, at: u32, longs: &[u32]) -> Result<(), CaseFault> {
-        self.add(at, bytes_of(alloc, longs)?)
+/// Leaves bits unsaid from an address on: those that are 0 in a mask.
+pub fn leave_unsaid(unsaid: &mut Vec<UnsaidBits>, at: u32, mask: &[u8]) -> Option<()> {
+    let mut at = at;
+    for bits in mask {
+        unsaid.push(UnsaidBits::new(at, !bits)?).ok()?;
+        at = at.saturating_add(1);
     }
+    Some(())
+}
 
-    /// Leaves the bits of a byte unsaid that are 0 in a mask.
-    fn leave_bits(&mut self, at: u32, mask: u8) -> Result<(), CaseFault> {
-        let bits = UnsaidBits::new(at, !mask).ok_or(CaseFault::Outside)?;
-        self.unsaid.push(bits)?;
-        Ok(())
+/// Leaves bits of a stretch unsaid, of which a mask has as many digits.
+fn leave_masked(
+    alloc: Global,
+    unsaid: &mut Vec<UnsaidBits>,
+    stretch: &str,
+    mask: &str,
+) -> Option<()> {
+    let (at, digits) = stretch.split_once(':')?;
+    if digits.len() != mask.len() {
+        return None;
     }
+    leave_unsaid(unsaid, read_long(at)?, &read_bytes(alloc, mask)?)
+}
 
-    /// Leaves bits unsaid from an address on: those that are 0 in a mask.
-    pub fn leave_unsaid(&mut self, at: u32, mask: &[u8]) -> Result<(), CaseFault> {
-        let mut at = at;
-        for bits in mask {
-            self.leave_bits(at, *bits)?;
-            at = at.saturating_add(1);
-        }
-        Ok(())
+/// Adds `ADDRESS:BYTES`, or `ADDRESS:BYTES&MASK`, to what has changed.
+pub fn add_change(alloc: Global, case: &mut Case, word: &str) -> Option<()> {
+    let (stretch, mask) = split_mask(word);
+    if let Some(mask) = mask {
+        leave_masked(alloc, &mut case.unsaid_bits, stretch, mask)?;
     }
-
-    /// Adds `ADDRESS:BYTES`, or `ADDRESS:BYTES&MASK` with so many bytes of a mask.
-    fn add_word(&mut self, alloc: Global, word: &str) -> Result<(), CaseFault> {
-        let (at, rest) = word.split_once(':').ok_or(CaseFault::Missing)?;
-        let at = read_long(at)?;
-        let (digits, mask) = split_mask(rest);
-        let bytes = read_bytes(alloc, digits)?;
-        let mask = read_mask(alloc, mask, bytes.len())?;
-        self.leave_unsaid(at, &mask)?;
-        self.add(at, bytes)
-    }
-
-    /// Adds all words of a part.
-    pub fn add_part(&mut self, alloc: Global, part: &str) -> Result<(), CaseFault> {
-        for word in part.split_whitespace() {
-            self.add_word(alloc, word)?;
-        }
-        Ok(())
-    }
+    add_stretch(alloc, &mut case.changes, stretch)
 }

@@ -1,52 +1,22 @@
 //! A line as a case.
 
-use crate::case::{Case, Name};
+use crate::case::Case;
 use crate::fault::CaseFault;
-use crate::fields::{read_long, split_mask};
-use crate::head::{Form, Head, Setting, read_head, setting_of};
-use crate::memory::Stretches;
-use crate::registers::{COUNT, ISP, Registers, SR, place_of};
-use std::alloc::{AllocError, Global};
+use crate::memory::{add_change, add_stretch, leave_unsaid};
+use crate::registers::{ISP, SR, VBR, place_of};
+use crate::single::Single;
+use crate::system::{System, add_vectors};
+use crate::words::{finish, read_long, split_mask};
+use std::alloc::Global;
+use std::str::SplitWhitespace;
 
-/// The registers after the instructions, and the bits of them that may be either.
+/// How the lines of a file are written.
 #[derive(Clone, Copy)]
-struct After {
-    registers: Registers,
-    unsaid: Registers,
-}
-
-/// `NAME=VALUE`, or `NAME=VALUE&MASK` with the bits that are compared; `MASK=BITS` opens bits of the status register.
-fn read_change(after: &mut After, word: &str) -> Result<(), CaseFault> {
-    let (name, rest) = word.split_once('=').ok_or(CaseFault::Missing)?;
-    let (digits, mask) = split_mask(rest);
-    if matches!(name.as_bytes(), b"MASK") {
-        after.unsaid[SR] = read_long(digits)?;
-        return Ok(());
-    }
-    let place = place_of(name).ok_or(CaseFault::Register)?;
-    after.registers[place] = read_long(digits)?;
-    if let Some(mask) = mask {
-        after.unsaid[place] = !read_long(mask)?;
-    }
-    Ok(())
-}
-
-/// The third part of a line. A register that it does not name is as before.
-fn read_after(part: &str, before: Registers) -> Result<After, CaseFault> {
-    let mut after = After {
-        registers: before,
-        unsaid: [0; COUNT],
-    };
-    for word in part.split_whitespace() {
-        read_change(&mut after, word)?;
-    }
-    Ok(after)
-}
-
-/// The mask of the low byte of a stacked status register.
-fn said_in_frame(unsaid: u32) -> u8 {
-    let [_, _, _, low] = unsaid.to_be_bytes();
-    !low
+pub enum Form {
+    /// An instruction each, mostly in user mode.
+    Single,
+    /// An instruction or a few, with all registers of the system.
+    System,
 }
 
 /// The parts of a line.
@@ -58,11 +28,11 @@ struct Parts<'a> {
     changes: &'a str,
 }
 
-fn parts_of(line: &str) -> Result<Parts<'_>, CaseFault> {
-    let (head, rest) = line.split_once('|').ok_or(CaseFault::Parts)?;
-    let (before, rest) = rest.split_once('|').ok_or(CaseFault::Parts)?;
-    let (after, changes) = rest.split_once('|').ok_or(CaseFault::Parts)?;
-    Ok(Parts {
+fn parts_of(line: &str) -> Option<Parts<'_>> {
+    let (head, rest) = line.split_once('|')?;
+    let (before, rest) = rest.split_once('|')?;
+    let (after, changes) = rest.split_once('|')?;
+    Some(Parts {
         head,
         before,
         after,
@@ -70,54 +40,113 @@ fn parts_of(line: &str) -> Result<Parts<'_>, CaseFault> {
     })
 }
 
-/// The fourth part of a line. Where the status register is stacked, the bits that may be either may be so there too.
-fn read_changes(
+/// `NUMBER KIND both|one WORDS`: the digits of the instructions' words. `both` is where two machines agree in all that
+/// is compared, `one` where one of them is followed.
+fn read_words<'a>(words: &mut SplitWhitespace<'a>) -> Option<&'a str> {
+    let _number = words.next()?;
+    let _kind = words.next()?;
+    match words.next()?.as_bytes() {
+        b"both" | b"one" => words.next(),
+        _ => None,
+    }
+}
+
+/// The second part of a line.
+fn read_stretches(alloc: Global, case: &mut Case, part: &str) -> Option<()> {
+    for word in part.split_whitespace() {
+        add_stretch(alloc, &mut case.image, word)?;
+    }
+    Some(())
+}
+
+/// The first two parts of a line of a single instruction. Whether the status register is stacked, with bits that may be
+/// either.
+fn read_single(alloc: Global, case: &mut Case, head: &str, before: &str) -> Option<bool> {
+    let mut words = head.split_whitespace();
+    let digits = read_words(&mut words)?;
+    let single = Single::read(&mut words, &mut case.after)?;
+    finish(&mut words)?;
+    read_stretches(alloc, case, before)?;
+    single.add_to(alloc, case, digits)?;
+    Some(single.traps())
+}
+
+/// The first two parts of a line of the system.
+fn read_system(alloc: Global, case: &mut Case, head: &str, before: &str) -> Option<bool> {
+    let mut words = head.split_whitespace();
+    let _digits = read_words(&mut words)?;
+    let system = System::read(&mut words, case)?;
+    finish(&mut words)?;
+    add_vectors(alloc, &mut case.image, case.after[VBR])?;
+    read_stretches(alloc, case, before)?;
+    system.add_to(alloc, case)?;
+    Some(false)
+}
+
+/// `NAME=VALUE`, or `NAME=VALUE&MASK` with the bits that are compared; `MASK=BITS` opens bits of the status register.
+fn read_register(case: &mut Case, word: &str) -> Option<()> {
+    let (name, value) = word.split_once('=')?;
+    let (digits, mask) = split_mask(value);
+    let value = read_long(digits)?;
+    if matches!(name.as_bytes(), b"MASK") {
+        case.unsaid[SR] = value;
+        return Some(());
+    }
+    let place = place_of(name.as_bytes())?;
+    *case.after.get_mut(place)? = value;
+    if let Some(mask) = mask {
+        *case.unsaid.get_mut(place)? = !read_long(mask)?;
+    }
+    Some(())
+}
+
+/// The third part of a line. A register that it does not name is as before.
+fn read_after(case: &mut Case, part: &str) -> Option<()> {
+    for word in part.split_whitespace() {
+        read_register(case, word)?;
+    }
+    Some(())
+}
+
+/// Where the status register is stacked, the bits that may be either may be so there too.
+fn leave_stacked(case: &mut Case) -> Option<()> {
+    let [_, _, _, low] = case.unsaid[SR].to_be_bytes();
+    let at = case.after[ISP].saturating_add(1);
+    leave_unsaid(&mut case.unsaid_bits, at, &[!low])
+}
+
+/// The fourth part of a line.
+fn read_changes(alloc: Global, case: &mut Case, part: &str) -> Option<()> {
+    for word in part.split_whitespace() {
+        add_change(alloc, case, word)?;
+    }
+    Some(())
+}
+
+/// All parts of a line.
+fn read_parts(
     alloc: Global,
-    part: &str,
-    stacks: bool,
-    after: &After,
-) -> Result<Stretches, CaseFault> {
-    let mut changed = Stretches::new(alloc);
-    changed.add_part(alloc, part)?;
+    case: &mut Case,
+    parts: &Parts<'_>,
+    form: Form,
+) -> Result<(), CaseFault> {
+    let before = match form {
+        Form::Single => read_single(alloc, case, parts.head, parts.before),
+        Form::System => read_system(alloc, case, parts.head, parts.before),
+    };
+    let stacks = before.ok_or(CaseFault::Before)?;
+    read_after(case, parts.after).ok_or(CaseFault::After)?;
+    read_changes(alloc, case, parts.changes).ok_or(CaseFault::Changes)?;
     if stacks {
-        let frame = after.registers[ISP].saturating_add(1);
-        changed.leave_unsaid(frame, &[said_in_frame(after.unsaid[SR])])?;
+        leave_stacked(case).ok_or(CaseFault::Changes)?;
     }
-    Ok(changed)
+    Ok(())
 }
 
-/// What a case is told by.
-fn name_of(alloc: Global, head: &Head) -> Result<Name, AllocError> {
-    let kind = String::from_str(alloc, head.kind)?;
-    let words = String::from_str(alloc, head.words)?;
-    Ok(Name {
-        number: head.number,
-        kind,
-        words,
-    })
-}
-
-/// The case of four parts.
-fn case_of(name: Name, setting: Setting, after: &After, changed: Stretches) -> Case {
-    Case {
-        name,
-        image: setting.image,
-        steps: setting.steps,
-        interrupted: setting.interrupted,
-        after: after.registers,
-        unsaid: after.unsaid,
-        changes: changed.chunks,
-        unsaid_bits: changed.unsaid,
-    }
-}
-
-/// A line as a case.
-pub fn read_case(alloc: Global, line: &str, form: Form) -> Result<Case, CaseFault> {
-    let parts = parts_of(line)?;
-    let head = read_head(parts.head, form)?;
-    let after = read_after(parts.after, head.before)?;
-    let setting = setting_of(alloc, &head, parts.before)?;
-    let changed = read_changes(alloc, parts.changes, setting.stacks, &after)?;
-    let name = name_of(alloc, &head)?;
-    Ok(case_of(name, setting, &after, changed))
+/// The line with a number as a case.
+pub fn read_case(alloc: Global, form: Form, number: u32, line: &str) -> Result<Case, CaseFault> {
+    let parts = parts_of(line).ok_or(CaseFault::Parts)?;
+    let mut case = Case::new(alloc, number);
+    read_parts(alloc, &mut case, &parts, form)?;
+    Ok(case)
 }

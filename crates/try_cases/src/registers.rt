@@ -1,8 +1,7 @@
 //! The registers of a machine, one after the other.
 
-ghost use Rattle.std.specs.Prelude.{◌≡◌, ◌<◌, IfSome};
+ghost use Rattle.std.specs.Prelude.{◌≡◌};
 ghost use Rattle.try_cases.specs.Cases.{registers_of};
-ghost use Rattle.try_cases.specs.declared.registers.TheConstants.{COUNT};
 
 use mb_instr::Regs;
 use mb_model::Cpu;
@@ -64,15 +63,8 @@ pub const DTT1: usize = 30;
 pub const MMUSR: usize = 31;
 
 /// The place of the register with a name.
-pub fn place_of(name: &str) -> Option<usize>
-    ensures { IfSome result (λ place. place < COUNT) }
-{
-    for place in 0..COUNT {
-        if name == NAMES[place] {
-            return Some(place);
-        }
-    }
-    None
+pub fn place_of(name: &[u8]) -> Option<usize> {
+    NAMES.iter().position(|known| known.as_bytes() == name)
 }
 
 /// The registers of a machine.

@@ -1,16 +1,16 @@
 //! What gives the machine of a single instruction its registers.
 
-use crate::code::{add_with_long, add_word};
-use crate::fault::CaseFault;
-use crate::fields::{next_long, next_longs, next_status, read_long};
-use crate::memory::Stretches;
+use crate::case::Case;
+use crate::chunk::Chunk;
+use crate::memory::{add, add_longs, add_words, halves};
 use crate::registers::{A0, ISP, PC, Registers, SR, USP};
+use crate::words::{next_long, next_longs, read_bytes, read_long};
 use mb_instr::status::S;
-use std::alloc::{AllocError, Global};
+use std::alloc::Global;
 use std::str::SplitWhitespace;
 
 /// How many steps give the registers and the condition codes.
-pub const SET_UP_STEPS: u32 = 2;
+const SET_UP_STEPS: u32 = 2;
 
 /// How many bytes the instructions have that do so.
 const SET_UP_BYTES: u32 = 12;
@@ -21,73 +21,81 @@ pub struct Single {
     /// Where the values of D0 to D7 and A0 to A6 stand in RAM.
     table: u32,
     /// Of a trap, where its vector stands and the address that it holds.
-    pub vector: Option<(u32, u32)>,
+    vector: Option<(u32, u32)>,
 }
 
 /// `VECTOR:HANDLER`, the vector's number in decimal.
-fn read_vector(word: &str) -> Result<(u32, u32), CaseFault> {
-    let (number, handler) = word.split_once(':').ok_or(CaseFault::Missing)?;
-    let number: u8 = number.parse()?;
-    Ok((4 * u32::from(number), read_long(handler)?))
+fn read_vector(word: &str) -> Option<(u32, u32)> {
+    let (number, handler) = word.split_once(':')?;
+    let number: u8 = number.parse().ok()?;
+    Some((4 * u32::from(number), read_long(handler)?))
 }
 
-/// `MOVE #n,SR` where the case is in user mode, or `MOVE #n,CCR`, by the word and the immediate.
-fn add_status(code: &mut Vec<u8>, sr: u32) -> Result<(), AllocError> {
-    let status = (sr % 0x1_0000) as u16;
+/// `PC SR ISP TABLE D0,..,D7 A0,..,A6`: the registers, and where the table stands.
+fn read_registers(words: &mut SplitWhitespace<'_>, before: &mut Registers) -> Option<u32> {
+    before[PC] = next_long(words)?;
+    before[SR] = next_long(words)?;
+    before[ISP] = next_long(words)?;
+    let table = next_long(words)?;
+    next_longs(words, &mut before[..A0])?;
+    next_longs(words, &mut before[A0..USP])?;
+    Some(table)
+}
+
+/// `MOVEM.L TABLE,D0-D7/A0-A6`, and `MOVE #n,SR` where the case is in user mode, or `MOVE #n,CCR`.
+fn code_of(table: u32, sr: u32) -> [u16; 6] {
+    let [high, low] = halves(table);
+    let [_, status] = halves(sr);
     if status & S == 0 {
-        add_word(code, 0x46FC)?;
-        add_word(code, status)
+        [0x4CF9, 0x7FFF, high, low, 0x46FC, status]
     } else {
-        add_word(code, 0x44FC)?;
-        add_word(code, status % 32)
+        [0x4CF9, 0x7FFF, high, low, 0x44FC, status % 32]
     }
 }
 
-/// `MOVEM.L TABLE,D0-D7/A0-A6` and the condition codes, and then these words.
-fn code_of(alloc: Global, table: u32, sr: u32, words: &[u8]) -> Result<Vec<u8>, AllocError> {
-    let mut code = Vec::new(alloc);
-    add_word(&mut code, 0x4CF9)?;
-    add_with_long(&mut code, 0x7FFF, table)?;
-    add_status(&mut code, sr)?;
-    code.extend_from_slice(words)?;
-    Ok(code)
-}
-
 impl Single {
-    /// `PC SR ISP TABLE D0,..,D7 A0,..,A6`, and of a trap `VECTOR:HANDLER`.
-    pub fn read(
-        words: &mut SplitWhitespace<'_>,
-        before: &mut Registers,
-    ) -> Result<Single, CaseFault> {
-        before[PC] = next_long(words)?;
-        before[SR] = next_status(words)?;
-        before[ISP] = next_long(words)?;
-        let table = next_long(words)?;
-        next_longs(words, &mut before[..A0])?;
-        next_longs(words, &mut before[A0..USP])?;
+    /// What stands behind the words of the instruction: the registers, and of a trap `VECTOR:HANDLER`.
+    pub fn read(words: &mut SplitWhitespace<'_>, before: &mut Registers) -> Option<Single> {
+        let table = read_registers(words, before)?;
         let vector = match words.next() {
             Some(word) => Some(read_vector(word)?),
             None => None,
         };
-        Ok(Single { table, vector })
+        Some(Single { table, vector })
     }
 
-    /// Adds what runs the case: its vector, the two longs of the reset, the code, and the values of the registers.
-    pub fn add_above(
+    /// Whether the status register is stacked, with bits that may be either.
+    pub fn traps(&self) -> bool {
+        self.vector.is_some()
+    }
+
+    /// Adds the vector, and the two longs of the reset, which lead to the code.
+    fn add_vectors(
         &self,
         alloc: Global,
-        image: &mut Stretches,
-        before: &Registers,
-        words: &[u8],
-    ) -> Result<(), CaseFault> {
+        image: &mut Vec<Chunk>,
+        isp: u32,
+        start: u32,
+    ) -> Option<()> {
         if let Some((at, handler)) = self.vector {
-            image.add_longs(alloc, at, &[handler])?;
+            add_longs(alloc, image, at, &[handler])?;
         }
-        let start = before[PC]
-            .checked_sub(SET_UP_BYTES)
-            .ok_or(CaseFault::Outside)?;
-        image.add_longs(alloc, 0, &[before[ISP], start])?;
-        image.add(start, code_of(alloc, self.table, before[SR], words)?)?;
-        image.add_longs(alloc, self.table, &before[..USP])
+        add_longs(alloc, image, 0, &[isp, start])
+    }
+
+    /// Adds what runs the case: the vectors, the code, the instruction, and the values of the registers.
+    pub fn add_to(&self, alloc: Global, case: &mut Case, words: &str) -> Option<()> {
+        let before = &case.after;
+        let start = before[PC].checked_sub(SET_UP_BYTES)?;
+        self.add_vectors(alloc, &mut case.image, before[ISP], start)?;
+        add_words(
+            alloc,
+            &mut case.image,
+            start,
+            &code_of(self.table, before[SR]),
+        )?;
+        add(&mut case.image, before[PC], read_bytes(alloc, words)?)?;
+        case.steps = SET_UP_STEPS + 1;
+        add_longs(alloc, &mut case.image, self.table, &before[..USP])
     }
 }
