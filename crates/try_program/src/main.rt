@@ -25,7 +25,7 @@ use wanted::Difference;
 
 /// The files of rows.
 #[rattlefmt::skip]
-static TABLES: [(&str, &str); 16] = [
+static TABLES: [(&str, &str); 17] = [
     ("machines", "machines.txt"),
     ("words", "words.txt"),
     ("files", "files.txt"),
@@ -36,6 +36,7 @@ static TABLES: [(&str, &str); 16] = [
     ("sessions", "sessions.txt"),
     ("disks", "disks.txt"),
     ("snapshots", "snapshots.txt"),
+    ("relays", "relays.txt"),
     ("texts_of_snapshots", "texts_of_snapshots.txt"),
     ("debugs", "debugs.txt"),
     ("commands_of_a_debugger", "commands_of_a_debugger.txt"),
