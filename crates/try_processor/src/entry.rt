@@ -9,9 +9,6 @@ use mb_frames::Access;
 use mb_instr::Regs;
 use mb_model::Cpu;
 
-/// How many longs of memory there are: 64 KiB.
-const LONGS: usize = 0x4000;
-
 /// A processor whose stacks are at $7000, $8000 and $9000, at $400.
 fn processor(sr: u16) -> Cpu {
     Cpu {

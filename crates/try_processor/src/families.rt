@@ -1,6 +1,7 @@
 //! Plain instructions, each by the call of its family, over a vector of longs.
 
-use crate::steps::{CODE, NO_HOLE, memory, processor, stands};
+use crate::bench::{Bench, CODE, NO_HOLE, Trial, check, stands, start};
+use crate::steps::processor;
 use End::{Done, Flows, Trapped, Unread, Unwritten};
 use mb_decode::{Decoded, decode};
 use mb_instr::{Instr, Plain};
@@ -10,11 +11,10 @@ use mb_ops_flow::perform_flow;
 use mb_ops_move::perform_move;
 use mb_port::Space;
 use mb_writes::Ended;
-use std::alloc::AllocError;
 use try_vector::VectorPort;
 
 /// How an instruction ended, in short.
-#[derive(Clone, Copy, Debug, PartialEq, Eq)]
+#[derive(Clone, Copy, PartialEq)]
 enum End {
     Done,
     /// Done, and T0 asks for a trace after it.
@@ -114,9 +114,12 @@ impl Row {
         plain.ccr = self.ccr;
         plain
     }
+}
 
-    /// Whether the instruction comes to what it should.
-    fn passes(&self, port: &mut VectorPort) -> bool {
+impl Trial for Row {
+    fn passes(&self, bench: &mut Bench) -> bool {
+        let port = &mut bench.port;
+        start(port, self.hole, self.words);
         let mut plain = processor(0).regs.plain();
         let (at, long) = self.long;
         performed(self.words, &mut plain, port) == Some(self.end)
@@ -126,11 +129,6 @@ impl Row {
 }
 
 #[test]
-fn each_family_by_its_call(rt: HostRuntime) -> Result<(), AllocError> {
-    for row in &ROWS {
-        let mut port = memory(rt.alloc(), row.hole, row.words)?;
-        let words = row.words;
-        assert!(rt; row.passes(&mut port), "{words:?}");
-    }
-    Ok(())
+fn each_family_by_its_call(rt: HostRuntime) {
+    check(&rt, rt.alloc(), &ROWS);
 }

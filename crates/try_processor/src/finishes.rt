@@ -8,11 +8,11 @@ mod writes;
 ghost use Rattle.std.specs.Prelude.{IsTrue, ◌≤◌};
 ghost use Rattle.mb_writes.specs.Transfers.{count_of, mask_in};
 
-use crate::steps::{memory, processor, stands};
+use crate::bench::{stands, start};
+use crate::steps::processor;
 use mb_model::Cpu;
 use mb_step::StepEnd;
 use mb_writes::count;
-use std::alloc::{AllocError, Global};
 use try_vector::VectorPort;
 
 /// The guest's status register: user mode, with X, Z and C.
@@ -23,9 +23,7 @@ const NO_VECTORS: u32 = 0x1_0000;
 
 /// A finish: the byte that memory refuses, the interrupt stack pointer and the vector base before it, and what it comes
 /// to.
-#[derive(Clone, Copy)]
 struct Row<'a> {
-    name: &'a str,
     hole: u32,
     isp: u32,
     vbr: u32,
@@ -39,8 +37,8 @@ struct Row<'a> {
 }
 
 impl Row<'_> {
-    fn memory(&self, alloc: Global) -> Result<VectorPort, AllocError> {
-        memory(alloc, self.hole, &[])
+    fn begin(&self, port: &mut VectorPort) {
+        start(port, self.hole, &[]);
     }
 
     fn processor(&self, pc: u32) -> Cpu {

@@ -1,6 +1,6 @@
 //! Rows by hand, over a vector of longs.
 
-use crate::steps::put;
+use crate::bench::{Bench, Trial, check, put};
 use Change::{A0, A3, D0, D1, Isp, Long, Mmusr, Msp, Sr, Stopped, Usp};
 use mb_decode::{Decoded, decode};
 use mb_instr::{ControlRegister, Instr, Regs, System};
@@ -8,7 +8,6 @@ use mb_model::Cpu;
 use mb_port::{Mmu, Space};
 use mb_system::perform_system;
 use mb_writes::Ended;
-use std::alloc::{AllocError, Global};
 use try_vector::VectorPort;
 
 /// Where the instruction stands.
@@ -46,21 +45,23 @@ fn supervisor() -> Cpu {
     }
 }
 
-/// 64 KiB of memory with a hole, a long at $1000, and the registers of the memory management unit all 9.
-fn memory(alloc: Global) -> Result<VectorPort, AllocError> {
-    let mut port = VectorPort::new(alloc, 0x4000, HOLE)?;
-    put(&mut port, 0x1000, 4, 0x8182_8384);
-    port.mmu = Mmu {
-        tc: 9,
-        itt0: 9,
-        itt1: 9,
-        dtt0: 9,
-        dtt1: 9,
-        mmusr: 9,
-        urp: 9,
-        srp: 9,
-    };
-    Ok(port)
+/// The registers of the memory management unit are all 9.
+const NINES: Mmu = Mmu {
+    tc: 9,
+    itt0: 9,
+    itt1: 9,
+    dtt0: 9,
+    dtt1: 9,
+    mmusr: 9,
+    urp: 9,
+    srp: 9,
+};
+
+/// Puts a long at $1000 into memory, and makes it refuse one byte.
+fn begin(port: &mut VectorPort) {
+    put(port, 0x1000, 4, 0x8182_8384);
+    port.mmu = NINES;
+    port.hole = HOLE;
 }
 
 /// Carries out the privileged instruction that the words are; `None` where they are none, and for RTE.
@@ -190,9 +191,14 @@ impl Row {
         }
         cpu
     }
+}
 
-    /// Whether the instruction changes a processor and memory to what they should be: the other memory is as before.
-    fn passes(&self, port: &mut VectorPort, other: &mut VectorPort) -> bool {
+impl Trial for Row {
+    /// The instruction changes a processor and memory to what they should be.
+    fn passes(&self, bench: &mut Bench) -> bool {
+        let (port, other) = (&mut bench.port, &mut bench.other);
+        begin(port);
+        begin(other);
         let mut cpu = self.before();
         performed(self.words, &mut cpu, port) == Some(Ended::Done { flow: self.flow })
             && cpu == self.after(other)
@@ -208,17 +214,6 @@ fn behind(words: &[u16]) -> u32 {
         at = at.wrapping_add(2);
     }
     at
-}
-
-#[test]
-fn changes_by_hand(rt: HostRuntime) -> Result<(), AllocError> {
-    for row in &ROWS {
-        let mut port = memory(rt.alloc())?;
-        let mut other = memory(rt.alloc())?;
-        let words = row.words;
-        assert!(rt; row.passes(&mut port, &mut other), "{words:?}");
-    }
-    Ok(())
 }
 
 /// A move of a control register was carried out, after which T0 asks for no trace.
@@ -245,66 +240,74 @@ fn held(code: u16, cpu: &Cpu, port: &VectorPort) -> u32 {
     }
 }
 
-/// The codes of the control registers, and the bits that each keeps.
-static CONTROL: [(u16, u32); 15] = [
-    (0x000, 0x7),
-    (0x001, 0x7),
-    (0x002, 0x8000_8000),
-    (0x003, 0xC000),
-    (0x004, 0xFFFF_E364),
-    (0x005, 0xFFFF_E364),
-    (0x006, 0xFFFF_E364),
-    (0x007, 0xFFFF_E364),
-    (0x800, 0xFFFF_FFFF),
-    (0x801, 0xFFFF_FFFF),
-    (0x803, 0xFFFF_FFFF),
-    (0x804, 0xFFFF_FFFF),
-    (0x805, 0xFFFF_FFF7),
-    (0x806, 0xFFFF_FE00),
-    (0x807, 0xFFFF_FE00),
+/// A control register: its code, and the bits that it keeps.
+struct Control {
+    code: u16,
+    kept: u32,
+}
+
+#[rattlefmt::skip]
+static CONTROL: [Control; 15] = [
+    Control { code: 0x000, kept: 0x7 },
+    Control { code: 0x001, kept: 0x7 },
+    Control { code: 0x002, kept: 0x8000_8000 },
+    Control { code: 0x003, kept: 0xC000 },
+    Control { code: 0x004, kept: 0xFFFF_E364 },
+    Control { code: 0x005, kept: 0xFFFF_E364 },
+    Control { code: 0x006, kept: 0xFFFF_E364 },
+    Control { code: 0x007, kept: 0xFFFF_E364 },
+    Control { code: 0x800, kept: 0xFFFF_FFFF },
+    Control { code: 0x801, kept: 0xFFFF_FFFF },
+    Control { code: 0x803, kept: 0xFFFF_FFFF },
+    Control { code: 0x804, kept: 0xFFFF_FFFF },
+    Control { code: 0x805, kept: 0xFFFF_FFF7 },
+    Control { code: 0x806, kept: 0xFFFF_FE00 },
+    Control { code: 0x807, kept: 0xFFFF_FE00 },
 ];
 
-/// Whether a control register has this code and these bits.
-fn has_bits(code: u16, kept: u32) -> bool {
-    match ControlRegister::of(code) {
-        Some(register) => register.code() == code && register.kept_bits() == kept,
-        None => false,
-    }
-}
-
-/// Whether no other control register is changed.
-fn are_untouched(code: u16, cpu: &Cpu, port: &VectorPort, untouched: &VectorPort) -> bool {
-    let before = supervisor();
-    for &(other, _) in &CONTROL {
-        if other != code && held(other, cpu, port) != held(other, &before, untouched) {
-            return false;
+impl Control {
+    /// Whether a control register has this code and these bits.
+    fn has_bits(&self) -> bool {
+        match ControlRegister::of(self.code) {
+            Some(register) => register.code() == self.code && register.kept_bits() == self.kept,
+            None => false,
         }
     }
-    true
-}
 
-/// Whether D1 takes what a control register holds, which takes its bits of D2, all ones, and then those of D1.
-fn goes_and_comes(code: u16, kept: u32, port: &mut VectorPort, untouched: &VectorPort) -> bool {
-    let mut cpu = supervisor();
-    let old = held(code, &cpu, port);
-    performed(&[0x4E7A, 0x1000 | code], &mut cpu, port) == DONE
-        && cpu.regs.d[1] == old
-        && performed(&[0x4E7B, 0x2000 | code], &mut cpu, port) == DONE
-        && held(code, &cpu, port) == kept
-        && are_untouched(code, &cpu, port, untouched)
-        && performed(&[0x4E7B, 0x1000 | code], &mut cpu, port) == DONE
-        && held(code, &cpu, port) == old & kept
-}
-
-#[test]
-fn control_registers_by_hand(rt: HostRuntime) -> Result<(), AllocError> {
-    let untouched = memory(rt.alloc())?;
-    for &(code, kept) in &CONTROL {
-        let mut port = memory(rt.alloc())?;
-        assert!(rt; has_bits(code, kept), "{code}");
-        assert!(rt; goes_and_comes(code, kept, &mut port, &untouched), "{code}");
+    /// Whether no other control register is changed.
+    fn leaves_others(&self, cpu: &Cpu, port: &VectorPort, untouched: &VectorPort) -> bool {
+        let before = supervisor();
+        for other in &CONTROL {
+            let code = other.code;
+            if code != self.code && held(code, cpu, port) != held(code, &before, untouched) {
+                return false;
+            }
+        }
+        true
     }
-    Ok(())
+
+    /// Whether a move between it and a data register is carried out.
+    fn moves(&self, word: u16, register: u16, cpu: &mut Cpu, port: &mut VectorPort) -> bool {
+        performed(&[word, register | self.code], cpu, port) == DONE
+    }
+}
+
+impl Trial for Control {
+    /// D1 takes what the register holds, which takes its bits of D2, all ones, and then those of D1.
+    fn passes(&self, bench: &mut Bench) -> bool {
+        begin(&mut bench.port);
+        begin(&mut bench.other);
+        let mut cpu = supervisor();
+        let old = held(self.code, &cpu, &bench.port);
+        self.has_bits()
+            && self.moves(0x4E7A, 0x1000, &mut cpu, &mut bench.port)
+            && cpu.regs.d[1] == old
+            && self.moves(0x4E7B, 0x2000, &mut cpu, &mut bench.port)
+            && held(self.code, &cpu, &bench.port) == self.kept
+            && self.leaves_others(&cpu, &bench.port, &bench.other)
+            && self.moves(0x4E7B, 0x1000, &mut cpu, &mut bench.port)
+            && held(self.code, &cpu, &bench.port) == old & self.kept
+    }
 }
 
 /// An instruction with an operand that is refused, and whether that is a write, in which space, and A2 then.
@@ -352,11 +355,14 @@ impl Refused {
         cpu.regs.pc = behind(self.words);
         cpu
     }
+}
 
-    /// Whether the operand is refused as it should be.
-    fn passes(&self, port: &mut VectorPort) -> bool {
+impl Trial for Refused {
+    /// The operand is refused as it should be.
+    fn passes(&self, bench: &mut Bench) -> bool {
+        begin(&mut bench.port);
         let mut cpu = self.before();
-        let refused = match performed(self.words, &mut cpu, port) {
+        let refused = match performed(self.words, &mut cpu, &mut bench.port) {
             Some(Ended::ReadFault(refused)) => Some((false, refused.fault.space, refused.first)),
             Some(Ended::WriteFault(refused)) => Some((true, refused.fault.space, refused.first)),
             _ => None,
@@ -366,11 +372,8 @@ impl Refused {
 }
 
 #[test]
-fn refused_in_their_spaces(rt: HostRuntime) -> Result<(), AllocError> {
-    for row in &REFUSED {
-        let mut port = memory(rt.alloc())?;
-        let words = row.words;
-        assert!(rt; row.passes(&mut port), "{words:?}");
-    }
-    Ok(())
+fn privileged(rt: HostRuntime) {
+    check(&rt, rt.alloc(), &ROWS);
+    check(&rt, rt.alloc(), &CONTROL);
+    check(&rt, rt.alloc(), &REFUSED);
 }

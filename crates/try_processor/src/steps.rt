@@ -5,35 +5,11 @@ mod returns;
 mod shorts;
 mod turns;
 
-ghost use Rattle.std.specs.Prelude.{◌<◌};
-
+use crate::bench::{Bench, CODE};
 use mb_instr::Regs;
 use mb_model::Cpu;
-use mb_port::{Piece, Port, Space};
 use mb_step::{Decoder, StepEnd, step};
-use std::alloc::{AllocError, Global};
 use try_vector::VectorPort;
-
-/// No byte is refused by a hole.
-pub(crate) const NO_HOLE: u32 = u32::MAX;
-
-/// Where the code stands.
-pub(crate) const CODE: u32 = 0x400;
-
-/// Vectors and the handlers that they name: of access errors, odd PCs, zero divides, privilege violations, traces,
-/// interrupts of level 6 and TRAP #0.
-static HANDLERS: [(u32, u32); 7] = [
-    (0x08, 0x500),
-    (0x0C, 0x500),
-    (0x14, 0x440),
-    (0x20, 0x420),
-    (0x24, 0x500),
-    (0x78, 0x700),
-    (0x80, 0x600),
-];
-
-/// RTE, where the handler of level 6 stands.
-const RTE: u16 = 0x4E73;
 
 /// A processor at the code, with A0 at $1000, A1 at $2000 and stacks at $3004, $8000 and $9000.
 pub(crate) fn processor(sr: u16) -> Cpu {
@@ -64,58 +40,42 @@ pub(crate) fn processor(sr: u16) -> Cpu {
     }
 }
 
-/// A memory of 64 KiB that refuses one byte, with the vectors, a handler that returns, and this code.
-pub(crate) fn memory(alloc: Global, hole: u32, code: &[u16]) -> Result<VectorPort, AllocError> {
-    let mut port = VectorPort::new(alloc, 0x4000, hole)?;
-    for &(vector, handler) in &HANDLERS {
-        put(&mut port, vector, 4, handler);
-    }
-    put(&mut port, 0x700, 2, u32::from(RTE));
-    let mut at = CODE;
-    for word in code {
-        put(&mut port, at, 2, u32::from(*word));
-        at = at.wrapping_add(2);
-    }
-    Ok(port)
+/// One step, with no interrupt.
+pub(crate) fn take_step(bench: &mut Bench, cpu: &mut Cpu) -> StepEnd {
+    step_over(&mut bench.decoder, cpu, &mut bench.port, Line::Calm)
 }
 
-/// A word or a long at an address that is a multiple of its length.
-pub(crate) fn put(port: &mut VectorPort, at: u32, len: u8, value: u32) {
-    let (at, len) = if len == 4 {
-        (at / 4 * 4, 4)
-    } else {
-        (at / 2 * 2, 2)
+/// What asks for an interrupt.
+#[derive(Clone, Copy)]
+pub(crate) enum Line {
+    Calm,
+    /// Level 5.
+    Lower,
+    /// Level 6.
+    Timer,
+}
+
+/// One step, with an interrupt that is asked for.
+pub(crate) fn step_over(
+    decoder: &mut Decoder,
+    cpu: &mut Cpu,
+    port: &mut VectorPort,
+    line: Line,
+) -> StepEnd {
+    let level = match line {
+        Line::Calm => 0,
+        Line::Lower => 5,
+        Line::Timer => 6,
     };
-    let _written = port.write(Space::Super, Piece { at, len }, value);
-}
-
-/// Longs from an address on.
-pub(crate) fn put_longs(port: &mut VectorPort, at: u32, longs: &[u32]) {
-    let mut at = at;
-    for long in longs {
-        put(port, at, 4, *long);
-        at = at.wrapping_add(4);
-    }
-}
-
-/// Whether these longs stand from an address on.
-pub(crate) fn stands(port: &VectorPort, at: u32, longs: &[u32]) -> bool {
-    let mut at = (at / 4) as usize;
-    for long in longs {
-        if port.longs.get(at) != Some(long) {
-            return false;
-        }
-        at = at.wrapping_add(1);
-    }
-    true
+    step(decoder, cpu, port, level)
 }
 
 /// How so many steps end, each of which but the last goes on.
-fn steps(decoder: &mut Decoder, count: u32, cpu: &mut Cpu, port: &mut VectorPort) -> StepEnd {
+fn steps(bench: &mut Bench, count: u32, cpu: &mut Cpu) -> StepEnd {
     for _ in 1..count {
-        if step(decoder, cpu, port, 0) != StepEnd::Went {
+        if take_step(bench, cpu) != StepEnd::Went {
             return StepEnd::Halted;
         }
     }
-    step(decoder, cpu, port, 0)
+    take_step(bench, cpu)
 }

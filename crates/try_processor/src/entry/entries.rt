@@ -1,12 +1,10 @@
 //! Entries.
 
-use super::{ACCESS_ERROR, ILLEGAL, LONGS, TIMER, processor};
-use crate::steps::{NO_HOLE, put_longs, stands};
+use super::{ACCESS_ERROR, ILLEGAL, TIMER, processor};
+use crate::bench::{Bench, NO_HOLE, Trial, check, put_longs, stands};
 use mb_entry::{Cause, Entered, enter};
 use mb_model::Cpu;
 use mb_port::{Fault, Space};
-use std::alloc::AllocError;
-use try_vector::VectorPort;
 
 /// The check of a long of a frame is refused.
 const REFUSED: Fault = Fault {
@@ -20,7 +18,6 @@ const REFUSED: Fault = Fault {
 
 /// A cause, and what its entry comes to.
 struct Case {
-    name: &'static str,
     /// SR, the interrupt stack pointer and the vector base before it.
     before: (u16, u32, u32),
     hole: u32,
@@ -39,65 +36,65 @@ struct Case {
 /// Each begins in the stopped state, which the entry ends.
 #[rattlefmt::skip]
 static CASES: [Case; 13] = [
+    // a trap has a short frame
     Case {
-        name: "a trap has a short frame",
         before: (0xA71F, 0x8000, 0), hole: NO_HOLE, vector: (0x80, &[0x600]),
         cause: Cause { vector: 32, pc: 0x406, ..ILLEGAL },
         end: Entered::Done, after: (0x271F, 0x600, 0x7FF8, 0x9000),
         frame: (0x7FF8, &[0xA71F_0000, 0x0406_0080]), master: &[0, 0],
     },
+    // a trace has an address
     Case {
-        name: "a trace has an address",
         before: (0xA700, 0x8000, 0), hole: NO_HOLE, vector: (0x24, &[0x500]),
         cause: Cause { vector: 9, pc: 0x406, address: 0x404, ..ILLEGAL },
         end: Entered::Done, after: (0x2700, 0x500, 0x7FF4, 0x9000),
         frame: (0x7FF4, &[0xA700_0000, 0x0406_2024, 0x0000_0404]), master: &[0, 0],
     },
+    // user mode enters the master stack
     Case {
-        name: "user mode enters the master stack",
         before: (0x1000, 0x8000, 0), hole: NO_HOLE, vector: (0x20, &[0x420]),
         cause: Cause { vector: 8, pc: 0x406, ..ILLEGAL },
         end: Entered::Done, after: (0x3000, 0x420, 0x8000, 0x8FF8),
         frame: (0x7FF8, &[0, 0]), master: &[0x1000_0000, 0x0406_0020],
     },
+    // an interrupt goes to both stacks
     Case {
-        name: "an interrupt goes to both stacks",
         before: (0x3000, 0x8000, 0), hole: NO_HOLE, vector: (0x78, &[0x700]), cause: TIMER,
         end: Entered::Done, after: (0x2600, 0x700, 0x7FF8, 0x8FF8),
         frame: (0x7FF8, &[0x3000_0000, 0x0400_1078]), master: &[0x3000_0000, 0x0400_0078],
     },
+    // the throwaway frame of an interrupt in user mode has a supervisor's status
     Case {
-        name: "the throwaway frame of an interrupt in user mode has a supervisor's status",
         before: (0xD105, 0x8000, 0), hole: NO_HOLE, vector: (0, &[]), cause: Cause { vector: 28, level: 4, ..ILLEGAL },
         end: Entered::Done, after: (0x2405, 0, 0x7FF8, 0x8FF8),
         frame: (0x7FF8, &[0xF105_0000, 0x0400_1070]), master: &[0xD105_0000, 0x0400_0070],
     },
+    // an interrupt with one stack
     Case {
-        name: "an interrupt with one stack",
         before: (0x2000, 0x8000, 0), hole: NO_HOLE, vector: (0x78, &[0x700]), cause: TIMER,
         end: Entered::Done, after: (0x2600, 0x700, 0x7FF8, 0x9000),
         frame: (0x7FF8, &[0x2000_0000, 0x0400_0078]), master: &[0, 0],
     },
+    // both frames are checked before one is written
     Case {
-        name: "both frames are checked before one is written",
         before: (0x3000, 0x8000, 0), hole: 0x7FFF, vector: (0, &[]), cause: TIMER,
         end: Entered::Faulted(REFUSED), after: (0x3000, 0x400, 0x8000, 0x9000),
         frame: (0x7FF8, &[0, 0]), master: &[0, 0],
     },
+    // a frame at an odd place is cut
     Case {
-        name: "a frame at an odd place is cut",
         before: (0x2711, 0x7FFD, 0), hole: NO_HOLE, vector: (0, &[]), cause: Cause { pc: 0x1122_3344, ..ILLEGAL },
         end: Entered::Done, after: (0x2711, 0, 0x7FF5, 0x9000),
         frame: (0x7FF4, &[0x0027_1111, 0x2233_4400, 0x1000_0000]), master: &[0, 0],
     },
+    // the last byte of such a frame is refused
     Case {
-        name: "the last byte of such a frame is refused",
         before: (0x2711, 0x7FFD, 0), hole: 0x7FFC, vector: (0, &[]), cause: ILLEGAL,
         end: Entered::Faulted(Fault { len: 1, ..REFUSED }), after: (0x2711, 0x400, 0x7FFD, 0x9000),
         frame: (0x7FF4, &[0, 0, 0]), master: &[0, 0],
     },
+    // an access error stacks its fields
     Case {
-        name: "an access error stacks its fields",
         before: (0x2700, 0x8000, 0), hole: NO_HOLE, vector: (8, &[0x500]), cause: Cause { pc: 0x40A, ..ACCESS_ERROR },
         end: Entered::Done, after: (0x2700, 0x500, 0x7FC4, 0x9000),
         frame: (0x7FC4, &[
@@ -106,21 +103,21 @@ static CASES: [Case; 13] = [
         ]),
         master: &[0, 0],
     },
+    // an access error without a stack halts
     Case {
-        name: "an access error without a stack halts",
         before: (0x2701, 0x10004, 0), hole: NO_HOLE, vector: (0, &[]), cause: Cause { pc: 0x404, ..ACCESS_ERROR },
         end: Entered::DoubleFault, after: (0x2701, 0x404, 0x10004, 0x9000),
         frame: (0xFFFC, &[0]), master: &[0, 0],
     },
+    // a vector that can not be read halts
     Case {
-        name: "a vector that can not be read halts",
         before: (0xA700, 0x8000, 0x1000_0000), hole: NO_HOLE, vector: (0, &[]),
         cause: Cause { vector: 32, pc: 0x406, ..ILLEGAL },
         end: Entered::DoubleFault, after: (0x2700, 0x406, 0x7FF8, 0x9000),
         frame: (0x7FF8, &[0xA700_0000, 0x0406_0080]), master: &[0, 0],
     },
+    // a vector at an odd place
     Case {
-        name: "a vector at an odd place",
         before: (0x2700, 0x8000, 0x1001), hole: NO_HOLE, vector: (0x1080, &[0x0011_2233, 0x4400_0000]),
         cause: Cause { vector: 32, pc: 0x406, ..ILLEGAL },
         end: Entered::Done, after: (0x2700, 0x1122_3344, 0x7FF8, 0x9000),
@@ -148,13 +145,16 @@ impl Case {
         cpu.regs.msp = msp;
         cpu
     }
+}
 
-    /// Whether the entry comes to what it should.
-    fn passes(&self, port: &mut VectorPort) -> bool {
+impl Trial for Case {
+    fn passes(&self, bench: &mut Bench) -> bool {
+        let port = &mut bench.port;
+        put_longs(port, self.vector.0, self.vector.1);
+        port.hole = self.hole;
         let mut cpu = self.before();
         cpu.stopped = true;
         let master = self.master;
-        put_longs(port, self.vector.0, self.vector.1);
         self.cause.level < 8
             && enter(&mut cpu, port, &self.cause) == self.end
             && cpu == self.after()
@@ -164,10 +164,6 @@ impl Case {
 }
 
 #[test]
-fn entries(rt: HostRuntime) -> Result<(), AllocError> {
-    for case in &CASES {
-        let mut port = VectorPort::new(rt.alloc(), LONGS, case.hole)?;
-        assert!(rt; case.passes(&mut port), "{}", case.name);
-    }
-    Ok(())
+fn entries(rt: HostRuntime) {
+    check(&rt, rt.alloc(), &CASES);
 }

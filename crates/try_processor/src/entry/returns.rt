@@ -1,13 +1,12 @@
 //! Returns.
 
-use super::{ACCESS_ERROR, FIELDS, ILLEGAL, LONGS, TIMER, processor};
-use crate::steps::{NO_HOLE, put_longs, stands};
+use super::{ACCESS_ERROR, FIELDS, ILLEGAL, TIMER, processor};
+use crate::bench::{Bench, NO_HOLE, Trial, check, put_longs, stands};
 use mb_entry::{Cause, Entered, enter, return_from, return_held};
 use mb_frames::Access;
 use mb_model::Cpu;
 use mb_port::{Fault, Space};
 use mb_writes::{Ended, MovemFault};
-use std::alloc::AllocError;
 use try_vector::VectorPort;
 
 const WENT: Ended = Ended::Done { flow: true };
@@ -17,29 +16,57 @@ const FORMAT_ERROR: Ended = Ended::Refused(14);
 /// Status registers.
 static STATUS: [u16; 6] = [0x2700, 0x3000, 0x0000, 0x901F, 0x6015, 0x8000];
 
-/// Enters and returns with a status register, which leaves the processor as it was. Whether it does.
+/// The processor after an entry with a status register, where it is done.
+fn entered(sr: u16, cause: &Cause, port: &mut VectorPort) -> Option<Cpu> {
+    let mut cpu = processor(sr);
+    if cause.level < 8 && enter(&mut cpu, port, cause) == Entered::Done {
+        Some(cpu)
+    } else {
+        None
+    }
+}
+
+/// Returns, with nothing held before.
+fn go_back(cpu: &mut Cpu, port: &mut VectorPort) -> Ended {
+    return_from(cpu, port)
+}
+
+/// What a return holds: the fields and PC of an access error.
+#[derive(Drop)]
+struct Held {
+    access: Access,
+    pc: u32,
+}
+
+/// Returns, and holds the fields and PC of an access error.
+fn go_back_held(cpu: &mut Cpu, port: &mut VectorPort, held: &mut Held) -> Ended {
+    return_held(cpu, port, &mut held.access, &mut held.pc)
+}
+
+/// Whether an entry with a status register and the return leave the processor as it was.
 fn comes_back(sr: u16, cause: &Cause, port: &mut VectorPort) -> bool {
-    let before = processor(sr);
-    let mut cpu = before;
-    cause.level < 8
-        && enter(&mut cpu, port, cause) == Entered::Done
-        && return_from(&mut cpu, port) == WENT
-        && cpu == before
+    match entered(sr, cause, port) {
+        Some(mut cpu) => go_back(&mut cpu, port) == WENT && cpu == processor(sr),
+        None => false,
+    }
 }
 
 /// Whether, as well, the return holds the fields and PC of an access error, and of other frames nothing.
 fn comes_back_held(sr: u16, cause: &Cause, port: &mut VectorPort) -> bool {
-    let (mut held, mut at, pc) = match cause.access {
-        Some(_) => (Access::default(), 7, 0x400),
-        None => (FIELDS, 7, 7),
+    let (access, wanted) = match cause.access {
+        Some(_) => (Access::default(), 0x400),
+        None => (FIELDS, 7),
     };
-    let before = processor(sr);
-    let mut cpu = before;
-    cause.level < 8
-        && enter(&mut cpu, port, cause) == Entered::Done
-        && return_held(&mut cpu, port, &mut held, &mut at) == WENT
-        && cpu == before
-        && (held, at) == (FIELDS, pc)
+    let mut held = Held { access, pc: 7 };
+    match entered(sr, cause, port) {
+        Some(mut cpu) => {
+            go_back_held(&mut cpu, port, &mut held) == WENT
+                && cpu == processor(sr)
+                && held.access == FIELDS
+                && held.pc == wanted
+        }
+        None => false,
+    }
 }
 
 /// A cause of each frame, a zero divide and a trap among them.
@@ -58,20 +85,21 @@ static CAUSES: [Cause; 5] = [
     ACCESS_ERROR,
 ];
 
-#[test]
-fn each_frame_there_and_back(rt: HostRuntime) -> Result<(), AllocError> {
-    let mut port = VectorPort::new(rt.alloc(), LONGS, NO_HOLE)?;
-    for cause in &CAUSES {
+impl Trial for Cause {
+    fn passes(&self, bench: &mut Bench) -> bool {
         for &sr in &STATUS {
-            assert!(rt; comes_back(sr, cause, &mut port) && comes_back_held(sr, cause, &mut port));
+            if !comes_back(sr, self, &mut bench.port)
+                || !comes_back_held(sr, self, &mut bench.port)
+            {
+                return false;
+            }
         }
+        true
     }
-    Ok(())
 }
 
 /// Short frames and throwaway frames.
 struct Frames {
-    name: &'static str,
     sr: u16,
     /// The longs at the interrupt stack, and at the master stack.
     interrupt: [u32; 2],
@@ -82,28 +110,34 @@ struct Frames {
 
 #[rattlefmt::skip]
 static FRAMES: [Frames; 6] = [
+    // only the bits of the status register are kept
     Frames {
-        name: "only the bits of the status register are kept", sr: 0x2700,
+        sr: 0x2700,
         interrupt: [0x0FFF_0000, 0x0500_0FFF], master: [0, 0], after: Some((0x071F, 0x500, 0x8008)),
     },
+    // format $3
     Frames {
-        name: "format $3", sr: 0x2300,
+        sr: 0x2300,
         interrupt: [0x2700_0000, 0x0500_3000], master: [0, 0], after: None,
     },
+    // format $F
     Frames {
-        name: "format $F", sr: 0x2300,
+        sr: 0x2300,
         interrupt: [0x2700_0000, 0x0500_F000], master: [0, 0], after: None,
     },
+    // a throwaway frame whose S is clear
     Frames {
-        name: "a throwaway frame whose S is clear", sr: 0x2300,
+        sr: 0x2300,
         interrupt: [0x1000_0000, 0x0500_1078], master: [0x2700_0000, 0x0600_0000], after: None,
     },
+    // a second throwaway frame
     Frames {
-        name: "a second throwaway frame", sr: 0x2300,
+        sr: 0x2300,
         interrupt: [0x3000_0000, 0x0500_1078], master: [0x2700_0000, 0x0600_1078], after: None,
     },
+    // below a throwaway frame a format that there is not
     Frames {
-        name: "below a throwaway frame a format that there is not", sr: 0x2300,
+        sr: 0x2300,
         interrupt: [0x3000_0000, 0x0500_1078], master: [0x2700_0000, 0x0600_8000], after: None,
     },
 ];
@@ -120,57 +154,53 @@ impl Frames {
         cpu.regs.isp = isp;
         (cpu, WENT)
     }
+}
 
-    /// Whether the return comes to what it should.
-    fn passes(&self, port: &mut VectorPort) -> bool {
+impl Trial for Frames {
+    fn passes(&self, bench: &mut Bench) -> bool {
+        let port = &mut bench.port;
         put_longs(port, 0x8000, &self.interrupt);
         put_longs(port, 0x9000, &self.master);
         let mut cpu = processor(self.sr);
-        let end = return_from(&mut cpu, port);
+        let end = go_back(&mut cpu, port);
         (cpu, end) == self.wanted()
     }
 }
 
-#[test]
-fn short_and_throwaway_frames(rt: HostRuntime) -> Result<(), AllocError> {
-    for frames in &FRAMES {
-        let mut port = VectorPort::new(rt.alloc(), LONGS, NO_HOLE)?;
-        assert!(rt; frames.passes(&mut port), "{}", frames.name);
-    }
-    Ok(())
+/// A byte that refuses, and the first byte of the operand that it is in.
+struct Hole {
+    at: u32,
+    first: u32,
 }
 
-/// The hole, and the first byte of the operand that it is in.
-static HOLES: [(u32, u32); 5] = [
-    (0x8001, 0x8000),
-    (0x8002, 0x8002),
-    (0x8005, 0x8002),
-    (0x8007, 0x8006),
-    (0x803B, 0x8038),
+#[rattlefmt::skip]
+static HOLES: [Hole; 5] = [
+    Hole { at: 0x8001, first: 0x8000 },
+    Hole { at: 0x8002, first: 0x8002 },
+    Hole { at: 0x8005, first: 0x8002 },
+    Hole { at: 0x8007, first: 0x8006 },
+    Hole { at: 0x803B, first: 0x8038 },
 ];
 
-/// Whether a return by a frame of an access error is refused at this operand, leaves all registers, and is done where
-/// nothing refuses.
-fn is_refused(hole: u32, first: u32, port: &mut VectorPort) -> bool {
-    put_longs(port, 0x8000, &[0x2000_0000, 0x0500_7008]);
-    port.hole = hole;
-    let before = processor(0x2700);
-    let mut cpu = before;
-    let refused = match return_from(&mut cpu, port) {
-        Ended::ReadFault(refused) => refused.first == first && cpu == before,
+/// Whether the return is refused at an operand, and leaves all registers.
+fn is_refused(first: u32, cpu: &mut Cpu, port: &mut VectorPort) -> bool {
+    match go_back(cpu, port) {
+        Ended::ReadFault(refused) => refused.first == first && *cpu == processor(0x2700),
         _ => false,
-    };
-    port.hole = NO_HOLE;
-    refused && return_from(&mut cpu, port) == WENT && cpu.regs.isp == 0x803C
+    }
 }
 
-#[test]
-fn a_refused_read_leaves_all_registers(rt: HostRuntime) -> Result<(), AllocError> {
-    for &(hole, first) in &HOLES {
-        let mut port = VectorPort::new(rt.alloc(), LONGS, NO_HOLE)?;
-        assert!(rt; is_refused(hole, first, &mut port), "{hole:x}");
+impl Trial for Hole {
+    /// A return by a frame of an access error is refused, and done where nothing refuses.
+    fn passes(&self, bench: &mut Bench) -> bool {
+        let port = &mut bench.port;
+        put_longs(port, 0x8000, &[0x2000_0000, 0x0500_7008]);
+        port.hole = self.at;
+        let mut cpu = processor(0x2700);
+        let refused = is_refused(self.first, &mut cpu, port);
+        port.hole = NO_HOLE;
+        refused && go_back(&mut cpu, port) == WENT && cpu.regs.isp == 0x803C
     }
-    Ok(())
 }
 
 /// The frame at $8000 of a MOVEM with these words, whose first transfer is at $2000, after so many.
@@ -196,7 +226,6 @@ fn interrupted(words: u32, done: u32) -> [u32; 15] {
 
 /// A MOVEM that goes on.
 struct Movem {
-    name: &'static str,
     words: u32,
     /// How many transfers were done.
     done: u32,
@@ -214,12 +243,14 @@ struct Movem {
 
 #[rattlefmt::skip]
 static MOVEMS: [Movem; 3] = [
+    // two transfers are left
     Movem {
-        name: "two transfers are left", words: 0x48D0_000F, done: 2, hole: NO_HOLE, loads: [0, 0, 0, 0],
+        words: 0x48D0_000F, done: 2, hole: NO_HOLE, loads: [0, 0, 0, 0],
         refused: None, pc: 0x404, d: [0xD0, 0xD1, 0xD2, 0xD3], a0: 0xA0, longs: [0, 0, 0xD2, 0xD3],
     },
+    // it is refused again
     Movem {
-        name: "it is refused again", words: 0x4CD8_000F, done: 1, hole: 0x200D, loads: [0, 0x1111, 0x2222, 0],
+        words: 0x4CD8_000F, done: 1, hole: 0x200D, loads: [0, 0x1111, 0x2222, 0],
         refused: Some(MovemFault {
             fault: Fault { at: 0x200C, len: 4, space: Space::Super, code: false, write: false, atc: false },
             first: 0x2000,
@@ -227,8 +258,9 @@ static MOVEMS: [Movem; 3] = [
         }),
         pc: 0x400, d: [0xD0, 0x1111, 0x2222, 0xD3], a0: 0xA0, longs: [0, 0x1111, 0x2222, 0],
     },
+    // with nothing left it steps its register
     Movem {
-        name: "with nothing left it steps its register", words: 0x4CD8_000F, done: 4, hole: NO_HOLE,
+        words: 0x4CD8_000F, done: 4, hole: NO_HOLE,
         loads: [0, 0, 0, 0], refused: None, pc: 0x404, d: [0xD0, 0xD1, 0xD2, 0xD3], a0: 0x2010, longs: [0, 0, 0, 0],
     },
 ];
@@ -260,61 +292,65 @@ impl Movem {
         put_longs(port, 0x2000, &self.loads);
         port.hole = self.hole;
     }
+}
 
-    /// Whether the return comes to what it should.
-    fn passes(&self, port: &mut VectorPort) -> bool {
+impl Trial for Movem {
+    fn passes(&self, bench: &mut Bench) -> bool {
+        let port = &mut bench.port;
+        self.put(port);
         let mut cpu = processor(0x2700);
-        let mut held = Access::default();
-        let mut at = 0;
-        return_held(&mut cpu, port, &mut held, &mut at) == self.end()
+        let mut held = Held {
+            access: Access::default(),
+            pc: 0,
+        };
+        go_back_held(&mut cpu, port, &mut held) == self.end()
             && cpu == self.wanted()
-            && (at, held.pd3, held.ssw) == (0x400, self.done, 0x1405)
+            && (held.pc, held.access.pd3, held.access.ssw) == (0x400, self.done, 0x1405)
             && stands(port, 0x2000, &self.longs)
     }
 }
 
-#[test]
-fn movems_go_on(rt: HostRuntime) -> Result<(), AllocError> {
-    for movem in &MOVEMS {
-        let mut port = VectorPort::new(rt.alloc(), LONGS, NO_HOLE)?;
-        movem.put(&mut port);
-        assert!(rt; movem.passes(&mut port), "{}", movem.name);
-    }
-    Ok(())
+/// The words of a MOVEM, how many transfers were done, and whether that is lawful.
+struct Words {
+    words: u32,
+    done: u32,
+    lawful: bool,
 }
 
-/// The words of a MOVEM, how many transfers were done, and whether that is lawful.
 #[rattlefmt::skip]
-static WORDS: [(u32, u32, bool); 15] = [
-    (0x48D0_000F, 5, false),
-    (0x48D0_000F, 0x1_0004, false),
-    (0x48C0_000F, 0, false),
-    (0x48D8_000F, 0, false),
-    (0x48E0_000F, 0, true),
-    (0x48FA_000F, 0, false),
-    (0x48BA_000F, 0, false),
-    (0x48B9_000F, 0, true),
-    (0x4CFA_000F, 0, true),
-    (0x4CFB_000F, 0, true),
-    (0x4CFC_000F, 0, false),
-    (0x4CE0_000F, 0, false),
-    (0x4C98_000F, 0, true),
-    (0x4E71_000F, 0, false),
-    (0x4C50_000F, 0, false),
+static WORDS: [Words; 15] = [
+    Words { words: 0x48D0_000F, done: 5, lawful: false },
+    Words { words: 0x48D0_000F, done: 0x1_0004, lawful: false },
+    Words { words: 0x48C0_000F, done: 0, lawful: false },
+    Words { words: 0x48D8_000F, done: 0, lawful: false },
+    Words { words: 0x48E0_000F, done: 0, lawful: true },
+    Words { words: 0x48FA_000F, done: 0, lawful: false },
+    Words { words: 0x48BA_000F, done: 0, lawful: false },
+    Words { words: 0x48B9_000F, done: 0, lawful: true },
+    Words { words: 0x4CFA_000F, done: 0, lawful: true },
+    Words { words: 0x4CFB_000F, done: 0, lawful: true },
+    Words { words: 0x4CFC_000F, done: 0, lawful: false },
+    Words { words: 0x4CE0_000F, done: 0, lawful: false },
+    Words { words: 0x4C98_000F, done: 0, lawful: true },
+    Words { words: 0x4E71_000F, done: 0, lawful: false },
+    Words { words: 0x4C50_000F, done: 0, lawful: false },
 ];
 
-/// How the return ends to a MOVEM of these words.
-fn ended(words: u32, done: u32, port: &mut VectorPort) -> Ended {
-    put_longs(port, 0x8000, &interrupted(words, done));
-    return_from(&mut processor(0x2700), port)
+impl Trial for Words {
+    /// What is no MOVEM is a format error.
+    fn passes(&self, bench: &mut Bench) -> bool {
+        let port = &mut bench.port;
+        put_longs(port, 0x8000, &interrupted(self.words, self.done));
+        let end = go_back(&mut processor(0x2700), port);
+        end == if self.lawful { WENT } else { FORMAT_ERROR }
+    }
 }
 
 #[test]
-fn what_is_no_movem_is_a_format_error(rt: HostRuntime) -> Result<(), AllocError> {
-    for &(words, done, lawful) in &WORDS {
-        let mut port = VectorPort::new(rt.alloc(), LONGS, NO_HOLE)?;
-        let wanted = if lawful { WENT } else { FORMAT_ERROR };
-        assert!(rt; ended(words, done, &mut port) == wanted, "{words:x}");
-    }
-    Ok(())
+fn returns(rt: HostRuntime) {
+    check(&rt, rt.alloc(), &CAUSES);
+    check(&rt, rt.alloc(), &FRAMES);
+    check(&rt, rt.alloc(), &HOLES);
+    check(&rt, rt.alloc(), &MOVEMS);
+    check(&rt, rt.alloc(), &WORDS);
 }

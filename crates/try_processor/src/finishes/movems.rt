@@ -1,10 +1,10 @@
 //! A MOVEM to registers, which goes on.
 
 use super::{GUEST, has_transfers};
-use crate::steps::{NO_HOLE, memory, processor, put, stands};
+use crate::bench::{Bench, NO_HOLE, Trial, check, put, stands, start};
+use crate::steps::processor;
 use mb_model::Cpu;
 use mb_step::StepEnd::Went;
-use std::alloc::AllocError;
 use try_vector::VectorPort;
 use vm_inject::finish_movem;
 
@@ -39,11 +39,20 @@ fn goes_on(d: [u32; 8], port: &mut VectorPort) -> bool {
         && (cpu.regs.d[4], cpu.regs.d[5], cpu.regs.a[0]) == (0xAAAA_0001, 0xBBBB_0002, 0x1008)
 }
 
+/// The transfers of that MOVEM.
+struct Transfers;
+
+static TRANSFERS: [Transfers; 1] = [Transfers];
+
+impl Trial for Transfers {
+    fn passes(&self, bench: &mut Bench) -> bool {
+        start(&mut bench.port, 0x1007, &[]);
+        let mut cpu = processor(GUEST);
+        is_refused(&mut cpu, &mut bench.port) && goes_on(cpu.regs.d, &mut bench.port)
+    }
+}
+
 #[test]
-fn transfers_to_registers(rt: HostRuntime) -> Result<(), AllocError> {
-    let mut port = memory(rt.alloc(), 0x1007, &[])?;
-    let mut cpu = processor(GUEST);
-    assert!(rt; is_refused(&mut cpu, &mut port));
-    assert!(rt; goes_on(cpu.regs.d, &mut port));
-    Ok(())
+fn transfers_to_registers(rt: HostRuntime) {
+    check(&rt, rt.alloc(), &TRANSFERS);
 }

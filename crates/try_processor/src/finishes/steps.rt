@@ -7,13 +7,13 @@ ghost use Rattle.mb_frames.specs.AccessFields.{piece_of};
 ghost use Rattle.mb_writes.specs.Writing.{ArePending};
 
 use super::{GUEST, has_transfers};
-use crate::steps::{CODE, NO_HOLE, memory, processor, put, stands};
+use crate::bench::{Bench, CODE, NO_HOLE, Trial, check, put, stands, start};
+use crate::steps::{Line, processor, step_over, take_step};
 use arrayvec::ArrayVec;
 use mb_entry::continues;
 use mb_frames::{Access, Frame, Pend, from_bytes};
 use mb_model::Cpu;
-use mb_step::{Decoder, StepEnd, step};
-use std::alloc::{AllocError, Global};
+use mb_step::StepEnd;
 use try_vector::VectorPort;
 use vm_inject::{
     LeftOver, cause_of, finish_line, finish_movem, finish_trap, finish_writes, left_in,
@@ -91,22 +91,13 @@ fn handed(board: &Cpu, pc: u32, sr: u16) -> Cpu {
     cpu
 }
 
-/// One step, with no interrupt.
-fn take_step(decoder: &mut Decoder, cpu: &mut Cpu, port: &mut VectorPort) -> StepEnd {
-    step(decoder, cpu, port, 0)
-}
-
 /// Does what was left.
-fn go_on(
-    decoder: &mut Decoder,
-    access: &Access,
-    cpu: &mut Cpu,
-    port: &mut VectorPort,
-) -> Option<StepEnd> {
+fn go_on(bench: &mut Bench, access: &Access, cpu: &mut Cpu) -> Option<StepEnd> {
+    let port = &mut bench.port;
     match left(access)? {
         LeftOver::Again => {
             *cpu = guest();
-            Some(take_step(decoder, cpu, port))
+            Some(take_step(bench, cpu))
         }
         LeftOver::Writes { pending, first } => {
             let pending = pending.as_slice();
@@ -135,109 +126,120 @@ fn go_on(
     }
 }
 
-/// Whether a step of the guest by itself, of this code, ends so and leaves this processor and this memory.
-fn is_own(
-    decoder: &mut Decoder,
-    code: &[u16],
-    alloc: Global,
+/// How a step of the guest ended, with its processor then.
+#[derive(Drop)]
+struct Finished {
     end: StepEnd,
-    cpu: &Cpu,
-    port: &VectorPort,
-) -> Result<bool, AllocError> {
-    let mut whole = memory(alloc, NO_HOLE, code)?;
+    cpu: Cpu,
+}
+
+/// Whether a step of the guest by itself, of this code, ends so and leaves this processor and this memory.
+fn is_own(code: &[u16], finished: &Finished, bench: &mut Bench) -> bool {
+    start(&mut bench.other, NO_HOLE, code);
     let mut own = guest();
-    let own_end = take_step(decoder, &mut own, &mut whole);
-    Ok(end == own_end && *cpu == own && port.longs.as_slice() == whole.longs.as_slice())
+    let end = step_over(&mut bench.decoder, &mut own, &mut bench.other, Line::Calm);
+    finished.end == end && finished.cpu == own && bench.port.longs == bench.other.longs
 }
 
 /// Code, and the byte that is refused at first.
 struct Denied {
-    name: &'static str,
     code: &'static [u16],
     hole: u32,
 }
 
 #[rattlefmt::skip]
 static DENIED: [Denied; 17] = [
-    Denied { name: "long, first piece", code: &[0x23FC, 0x1122, 0x3344, 0x0000, 0x2001], hole: 0x2001 },
-    Denied { name: "long, second piece", code: &[0x23FC, 0x1122, 0x3344, 0x0000, 0x2001], hole: 0x2002 },
-    Denied { name: "long, third piece", code: &[0x23FC, 0x1122, 0x3344, 0x0000, 0x2001], hole: 0x2004 },
-    Denied { name: "push of BSR", code: &[0x6104], hole: 0x3001 },
-    Denied { name: "line that is written", code: &[0xF620, 0x9000], hole: 0x2004 },
-    Denied { name: "line that is read", code: &[0xF620, 0x9000], hole: 0x1004 },
-    Denied { name: "MOVEM to memory, first transfer", code: &[0x48D0, 0x000F], hole: 0x1000 },
-    Denied { name: "MOVEM to memory, third transfer", code: &[0x48D0, 0x000F], hole: 0x1008 },
-    Denied { name: "MOVEM down, second transfer", code: &[0x48E0, 0xF000], hole: 0x0FF8 },
-    Denied { name: "MOVEM to registers, third transfer", code: &[0x4CD8, 0x00F0], hole: 0x1008 },
-    Denied { name: "MOVEP, first byte", code: &[0x01C9, 0x0000], hole: 0x2000 },
-    Denied { name: "MOVEP, second byte", code: &[0x01C9, 0x0000], hole: 0x2002 },
-    Denied { name: "MOVEP, fourth byte", code: &[0x01C9, 0x0000], hole: 0x2006 },
-    Denied { name: "read", code: &[0x2018], hole: 0x1001 },
-    Denied { name: "locked check", code: &[0x4AD0], hole: 0x1000 },
-    Denied { name: "first fetch", code: &[0x23FC, 0x1122, 0x3344, 0x0000, 0x2001], hole: 0x0400 },
-    Denied { name: "third fetch", code: &[0x23FC, 0x1122, 0x3344, 0x0000, 0x2001], hole: 0x0405 },
+    // long, first piece
+    Denied { code: &[0x23FC, 0x1122, 0x3344, 0x0000, 0x2001], hole: 0x2001 },
+    // long, second piece
+    Denied { code: &[0x23FC, 0x1122, 0x3344, 0x0000, 0x2001], hole: 0x2002 },
+    // long, third piece
+    Denied { code: &[0x23FC, 0x1122, 0x3344, 0x0000, 0x2001], hole: 0x2004 },
+    // push of BSR
+    Denied { code: &[0x6104], hole: 0x3001 },
+    // line that is written
+    Denied { code: &[0xF620, 0x9000], hole: 0x2004 },
+    // line that is read
+    Denied { code: &[0xF620, 0x9000], hole: 0x1004 },
+    // MOVEM to memory, first transfer
+    Denied { code: &[0x48D0, 0x000F], hole: 0x1000 },
+    // MOVEM to memory, third transfer
+    Denied { code: &[0x48D0, 0x000F], hole: 0x1008 },
+    // MOVEM down, second transfer
+    Denied { code: &[0x48E0, 0xF000], hole: 0x0FF8 },
+    // MOVEM to registers, third transfer
+    Denied { code: &[0x4CD8, 0x00F0], hole: 0x1008 },
+    // MOVEP, first byte
+    Denied { code: &[0x01C9, 0x0000], hole: 0x2000 },
+    // MOVEP, second byte
+    Denied { code: &[0x01C9, 0x0000], hole: 0x2002 },
+    // MOVEP, fourth byte
+    Denied { code: &[0x01C9, 0x0000], hole: 0x2006 },
+    // read
+    Denied { code: &[0x2018], hole: 0x1001 },
+    // locked check
+    Denied { code: &[0x4AD0], hole: 0x1000 },
+    // first fetch
+    Denied { code: &[0x23FC, 0x1122, 0x3344, 0x0000, 0x2001], hole: 0x0400 },
+    // third fetch
+    Denied { code: &[0x23FC, 0x1122, 0x3344, 0x0000, 0x2001], hole: 0x0405 },
 ];
 
-/// A step of the board that is refused, and the guest's processor after what was left, with the end of that.
-fn finish_denied(
-    decoder: &mut Decoder,
-    row: &Denied,
-    port: &mut VectorPort,
-) -> Option<(StepEnd, Cpu)> {
+/// A step of the board that is refused, and what was left of it.
+fn finish_denied(row: &Denied, bench: &mut Bench) -> Option<Finished> {
     let mut board = processor(BOARD);
-    port.hole = row.hole;
-    let end = take_step(decoder, &mut board, port);
-    port.hole = NO_HOLE;
+    bench.port.hole = row.hole;
+    let end = take_step(bench, &mut board);
+    bench.port.hole = NO_HOLE;
     if end != StepEnd::Went {
         return None;
     }
-    let Frame::Access { sr, pc, access, .. } = take_frame(port, board.regs.isp)? else {
+    let Frame::Access { sr, pc, access, .. } = take_frame(&mut bench.port, board.regs.isp)? else {
         return None;
     };
     let mut cpu = handed(&board, pc, sr);
-    let end = go_on(decoder, &access, &mut cpu, port)?;
-    Some((end, cpu))
+    let end = go_on(bench, &access, &mut cpu)?;
+    Some(Finished { end, cpu })
 }
 
-#[test]
-fn denied_steps(rt: HostRuntime) -> Result<(), AllocError> {
-    let mut decoder = Decoder::new(rt.alloc())?;
-    for row in &DENIED {
-        let mut port = memory(rt.alloc(), NO_HOLE, row.code)?;
-        let (end, cpu) = finish_denied(&mut decoder, row, &mut port).expect(&rt, row.name);
-        let own = is_own(&mut decoder, row.code, rt.alloc(), end, &cpu, &port)?;
-        assert!(rt; own, "{}", row.name);
+impl Trial for Denied {
+    fn passes(&self, bench: &mut Bench) -> bool {
+        start(&mut bench.port, NO_HOLE, self.code);
+        match finish_denied(self, bench) {
+            Some(finished) => is_own(self.code, &finished, bench),
+            None => false,
+        }
     }
-    Ok(())
 }
 
-/// Code that traps, its exit, and whether V is set before it.
+/// Code that traps, and its exit.
+struct Trap {
+    code: &'static [u16],
+    exit: u8,
+}
+
 #[rattlefmt::skip]
-static TRAPS: [(&[u16], u8); 5] = [
-    (&[0x4E40], 32),
-    (&[0x4E4F], 47),
-    (&[0x80FC, 0x0000], 5),
-    (&[0x41BC, 0x0000], 6),
-    (&[0x50FC], 7),
+static TRAPS: [Trap; 5] = [
+    Trap { code: &[0x4E40], exit: 32 },
+    Trap { code: &[0x4E4F], exit: 47 },
+    Trap { code: &[0x80FC, 0x0000], exit: 5 },
+    Trap { code: &[0x41BC, 0x0000], exit: 6 },
+    Trap { code: &[0x50FC], exit: 7 },
 ];
 
-/// A step of the board that traps, and the guest's processor after it was entered for the guest, with the end of that.
-fn finish_trapped(
-    decoder: &mut Decoder,
-    exit: u8,
-    port: &mut VectorPort,
-) -> Option<(StepEnd, Cpu)> {
+/// A step of the board that traps, which is then entered for the guest.
+fn finish_trapped(exit: u8, bench: &mut Bench) -> Option<Finished> {
     let mut board = processor(BOARD);
-    if take_step(decoder, &mut board, port) != StepEnd::Went {
+    if take_step(bench, &mut board) != StepEnd::Went {
         return None;
     }
-    let frame = take_frame(port, board.regs.isp)?;
+    let frame = take_frame(&mut bench.port, board.regs.isp)?;
     let (Frame::Short { sr, pc, .. } | Frame::Address { sr, pc, .. }) = frame else {
         return None;
     };
     let mut cpu = handed(&board, pc, sr);
-    let end = enter_trap(&frame, exit, &mut cpu, port)?;
-    Some((end, cpu))
+    let end = enter_trap(&frame, exit, &mut cpu, &mut bench.port)?;
+    Some(Finished { end, cpu })
 }
 
 /// Enters the trap that a frame tells of, of the instruction at the code.
@@ -253,16 +255,14 @@ fn enter_trap(frame: &Frame, exit: u8, cpu: &mut Cpu, port: &mut VectorPort) -> 
     Some(finish_trap(&cause, &before.regs.plain(), cpu, port))
 }
 
-#[test]
-fn trapped_steps(rt: HostRuntime) -> Result<(), AllocError> {
-    let mut decoder = Decoder::new(rt.alloc())?;
-    for &(code, exit) in &TRAPS {
-        let mut port = memory(rt.alloc(), NO_HOLE, code)?;
-        let (end, cpu) = finish_trapped(&mut decoder, exit, &mut port).expect(&rt, "a trap");
-        let own = is_own(&mut decoder, code, rt.alloc(), end, &cpu, &port)?;
-        assert!(rt; own, "{exit}");
+impl Trial for Trap {
+    fn passes(&self, bench: &mut Bench) -> bool {
+        start(&mut bench.port, NO_HOLE, self.code);
+        match finish_trapped(self.exit, bench) {
+            Some(finished) => is_own(self.code, &finished, bench),
+            None => false,
+        }
     }
-    Ok(())
 }
 
 /// What MOVEM.L D0-D3,(A0) at $400 to $3F8 leaves after its third transfer.
@@ -274,37 +274,48 @@ const THREE_DONE: LeftOver = LeftOver::Movem {
 };
 
 /// The board's step, whose third transfer is over its words and whose fourth is refused: its processor and frame.
-fn begin_movem(decoder: &mut Decoder, port: &mut VectorPort) -> Option<(Cpu, Frame)> {
+fn begin_movem(bench: &mut Bench) -> Option<(Cpu, Frame)> {
     let mut board = processor(BOARD);
     board.regs.a[0] = 0x3F8;
-    let end = take_step(decoder, &mut board, port);
-    port.hole = NO_HOLE;
-    if end != StepEnd::Went || !stands(port, CODE, &[0xD2D2_D2D2, 0]) {
+    let end = take_step(bench, &mut board);
+    bench.port.hole = NO_HOLE;
+    if end != StepEnd::Went || !stands(&bench.port, CODE, &[0xD2D2_D2D2, 0]) {
         return None;
     }
-    Some((board, take_frame(port, board.regs.isp)?))
+    Some((board, take_frame(&mut bench.port, board.regs.isp)?))
 }
 
 /// Whether the guest ends it.
-fn ends_movem(decoder: &mut Decoder, port: &mut VectorPort) -> Option<bool> {
-    let (board, frame) = begin_movem(decoder, port)?;
+fn ends_movem(bench: &mut Bench) -> Option<bool> {
+    let (board, frame) = begin_movem(bench)?;
     let Frame::Access { sr, pc, access, .. } = frame else {
         return None;
     };
     let mut cpu = handed(&board, pc, sr);
     let was_left = left(&access) == Some(THREE_DONE);
-    let end = go_on(decoder, &access, &mut cpu, port)?;
+    let end = go_on(bench, &access, &mut cpu)?;
     let ends = end == StepEnd::Went && (cpu.regs.sr, cpu.regs.pc) == (GUEST, 0x404);
-    Some(was_left && ends && stands(port, 0x3F8, &STORED))
+    Some(was_left && ends && stands(&bench.port, 0x3F8, &STORED))
 }
 
 /// What it stores.
 static STORED: [u32; 4] = [0xD0D0_D0D0, 0xD1D1_D1D1, 0xD2D2_D2D2, 0xD3D3_D3D3];
 
+/// A MOVEM whose words are gone when it goes on.
+struct OverItself;
+
+static OVER_ITSELF: [OverItself; 1] = [OverItself];
+
+impl Trial for OverItself {
+    fn passes(&self, bench: &mut Bench) -> bool {
+        start(&mut bench.port, 0x404, &[0x48D0, 0x000F]);
+        ends_movem(bench) == Some(true)
+    }
+}
+
 #[test]
-fn a_movem_over_its_own_words(rt: HostRuntime) -> Result<(), AllocError> {
-    let mut decoder = Decoder::new(rt.alloc())?;
-    let mut port = memory(rt.alloc(), 0x404, &[0x48D0, 0x000F])?;
-    assert!(rt; ends_movem(&mut decoder, &mut port) == Some(true));
-    Ok(())
+fn steps_of_a_board(rt: HostRuntime) {
+    check(&rt, rt.alloc(), &DENIED);
+    check(&rt, rt.alloc(), &TRAPS);
+    check(&rt, rt.alloc(), &OVER_ITSELF);
 }

@@ -3,28 +3,37 @@
 ghost use Rattle.std.specs.Prelude.{◌<◌};
 
 use super::{GUEST, NO_VECTORS, Row};
-use crate::steps::{CODE, NO_HOLE, processor};
+use crate::bench::{Bench, CODE, NO_HOLE, Trial, check};
+use crate::steps::processor;
 use mb_entry::Cause;
 use mb_frames::Frame;
 use mb_step::StepEnd::{Halted, Went};
-use std::alloc::AllocError;
 use try_vector::VectorPort;
 use vm_inject::{cause_of, finish_trap};
 
+/// The finish of a zero divide.
+struct Trapped(Row<'static>);
+
 #[rattlefmt::skip]
-static TRAPPED: [Row<'static>; 6] = [
-    Row { name: "zero divide", hole: NO_HOLE, isp: 0x8000, vbr: 0, end: Went, after: (0x2015, 0x440, 0x7FF4),
-        longs: &[], frame: &[0x0015_0000, 0x0404_2014, 0x0400] },
-    Row { name: "first piece of the frame", hole: 0x7FF4, isp: 0x8000, vbr: 0, end: Halted,
-        after: (0x0004, 0x400, 0x8000), longs: &[], frame: &[] },
-    Row { name: "second piece of the frame", hole: 0x7FFB, isp: 0x8000, vbr: 0, end: Halted,
-        after: (0x0004, 0x400, 0x8000), longs: &[], frame: &[] },
-    Row { name: "third piece of the frame", hole: 0x7FFC, isp: 0x8000, vbr: 0, end: Halted,
-        after: (0x0004, 0x400, 0x8000), longs: &[], frame: &[] },
-    Row { name: "frame without a place", hole: NO_HOLE, isp: 0x1_0040, vbr: 0, end: Halted,
-        after: (0x0004, 0x400, 0x1_0040), longs: &[], frame: &[] },
-    Row { name: "no vector", hole: NO_HOLE, isp: 0x8000, vbr: NO_VECTORS, end: Halted, after: (0x2015, 0x404, 0x7FF4),
-        longs: &[], frame: &[0x0015_0000, 0x0404_2014, 0x0400] },
+static TRAPPED: [Trapped; 6] = [
+    // zero divide
+    Trapped(Row { hole: NO_HOLE, isp: 0x8000, vbr: 0, end: Went, after: (0x2015, 0x440, 0x7FF4),
+        longs: &[], frame: &[0x0015_0000, 0x0404_2014, 0x0400] }),
+    // first piece of the frame
+    Trapped(Row { hole: 0x7FF4, isp: 0x8000, vbr: 0, end: Halted,
+        after: (0x0004, 0x400, 0x8000), longs: &[], frame: &[] }),
+    // second piece of the frame
+    Trapped(Row { hole: 0x7FFB, isp: 0x8000, vbr: 0, end: Halted,
+        after: (0x0004, 0x400, 0x8000), longs: &[], frame: &[] }),
+    // third piece of the frame
+    Trapped(Row { hole: 0x7FFC, isp: 0x8000, vbr: 0, end: Halted,
+        after: (0x0004, 0x400, 0x8000), longs: &[], frame: &[] }),
+    // frame without a place
+    Trapped(Row { hole: NO_HOLE, isp: 0x1_0040, vbr: 0, end: Halted,
+        after: (0x0004, 0x400, 0x1_0040), longs: &[], frame: &[] }),
+    // no vector
+    Trapped(Row { hole: NO_HOLE, isp: 0x8000, vbr: NO_VECTORS, end: Halted, after: (0x2015, 0x404, 0x7FF4),
+        longs: &[], frame: &[0x0015_0000, 0x0404_2014, 0x0400] }),
 ];
 
 /// A zero divide at the code.
@@ -57,13 +66,16 @@ fn divides(row: &Row, port: &mut VectorPort) -> bool {
     cpu.regs.d == left && row.is_met(end, &cpu, 0, port)
 }
 
-#[test]
-fn zero_divides(rt: HostRuntime) -> Result<(), AllocError> {
-    for row in &TRAPPED {
-        let mut port = row.memory(rt.alloc())?;
-        assert!(rt; divides(row, &mut port), "{}", row.name);
+impl Trial for Trapped {
+    fn passes(&self, bench: &mut Bench) -> bool {
+        self.0.begin(&mut bench.port);
+        divides(&self.0, &mut bench.port)
     }
-    Ok(())
+}
+
+#[test]
+fn zero_divides(rt: HostRuntime) {
+    check(&rt, rt.alloc(), &TRAPPED);
 }
 
 /// A frame, the exit that it is of, and the address of the instruction.

@@ -1,9 +1,9 @@
 //! Instructions in short beside the general way.
 
-use super::{CODE, NO_HOLE, memory, processor, put};
+use super::{Line, processor, step_over};
+use crate::bench::{Bench, CODE, NO_HOLE, Trial, check, put, start};
 use mb_model::Cpu;
-use mb_step::{Decoder, StepEnd, step};
-use std::alloc::{AllocError, Global};
+use mb_step::{Decoder, StepEnd};
 use try_vector::VectorPort;
 
 /// A byte of the operands, for steps in which it is refused.
@@ -115,7 +115,6 @@ static OF_THREE_WORDS: [[u16; 3]; 10] = [
 ];
 
 /// What a step is taken from: the status register, the byte that is refused, and whether the bus answers quick calls.
-#[derive(Clone, Copy)]
 struct Setting {
     sr: u16,
     hole: u32,
@@ -147,110 +146,101 @@ static SETTINGS: [Setting; 4] = [
 ];
 
 /// How a step ended, with the processor then.
-#[derive(Drop)]
+#[derive(Drop, PartialEq)]
 struct Stepped {
     end: StepEnd,
     cpu: Cpu,
 }
 
-/// A memory with operands that are numbers of their own.
-fn operands(alloc: Global, setting: Setting) -> Result<VectorPort, AllocError> {
-    let mut port = memory(alloc, setting.hole, &[])?;
-    port.is_quick = setting.is_quick;
-    let mut operand = 0x8123_4567_u32;
-    for place in 0..16 {
-        put(&mut port, 0x1100 + 4 * place, 4, operand);
-        operand = operand.wrapping_mul(5);
-    }
-    Ok(port)
-}
-
-/// One step of these words.
-fn take_step(
-    setting: Setting,
-    words: [u16; 3],
-    decoder: &mut Decoder,
-    port: &mut VectorPort,
-) -> Stepped {
-    put(port, CODE, 2, u32::from(words[0]));
-    put(port, CODE + 2, 2, u32::from(words[1]));
-    put(port, CODE + 4, 2, u32::from(words[2]));
-    let mut cpu = processor(setting.sr);
-    cpu.regs.a[1] = 0x1108;
-    cpu.regs.usp = 0x1110;
-    cpu.regs.pc = CODE;
-    let end = step(decoder, &mut cpu, port, 0);
-    Stepped { end, cpu }
-}
-
-/// Whether two steps of the same words, each over a memory of its own, end the same and leave the same processor.
-fn is_as_general(
-    setting: Setting,
-    words: [u16; 3],
-    decoder: &mut Decoder,
-    port: &mut VectorPort,
-    other: &mut VectorPort,
-) -> bool {
-    let general = take_step(setting, words, decoder, port);
-    let short = take_step(setting, words, decoder, other);
-    short.end == general.end && short.cpu == general.cpu
-}
-
-/// The first word whose second step is not as its first.
-fn first_other(
-    setting: Setting,
-    decoder: &mut Decoder,
-    port: &mut VectorPort,
-    other: &mut VectorPort,
-) -> Option<u16> {
-    for first in &ALONE {
-        if !is_as_general(setting, [*first, 0x4E71, 0x4E71], decoder, port, other) {
-            return Some(*first);
+impl Setting {
+    /// Makes a memory with operands that are numbers of their own.
+    fn put_operands(&self, port: &mut VectorPort) {
+        start(port, self.hole, &[]);
+        port.is_quick = self.is_quick;
+        let mut operand = 0x8123_4567_u32;
+        for place in 0..16 {
+            put(port, 0x1100 + 4 * place, 4, operand);
+            operand = operand.wrapping_mul(5);
         }
     }
-    for first in &WITH_ANOTHER {
-        if !is_as_general(setting, [*first, 0x0004, 0x4E71], decoder, port, other) {
-            return Some(*first);
+
+    /// One step of these words.
+    fn step(&self, words: [u16; 3], decoder: &mut Decoder, port: &mut VectorPort) -> Stepped {
+        put(port, CODE, 2, u32::from(words[0]));
+        put(port, CODE + 2, 2, u32::from(words[1]));
+        put(port, CODE + 4, 2, u32::from(words[2]));
+        let mut cpu = processor(self.sr);
+        cpu.regs.a[1] = 0x1108;
+        cpu.regs.usp = 0x1110;
+        let end = step_over(decoder, &mut cpu, port, Line::Calm);
+        Stepped { end, cpu }
+    }
+
+    /// Whether two steps of the same words, each over a memory of its own, end the same and leave the same processor.
+    fn is_as_general(&self, words: [u16; 3], bench: &mut Bench) -> bool {
+        let general = self.step(words, &mut bench.decoder, &mut bench.port);
+        let short = self.step(words, &mut bench.decoder, &mut bench.other);
+        short == general
+    }
+}
+
+/// Whether the second step of each first word, with this one behind it, is as its first.
+fn are_as_general(setting: &Setting, all: &[u16], second: u16, bench: &mut Bench) -> bool {
+    for first in all {
+        if !setting.is_as_general([*first, second, 0x4E71], bench) {
+            return false;
         }
     }
+    true
+}
+
+/// Whether the second step of each three words is as its first.
+fn are_found_again(setting: &Setting, bench: &mut Bench) -> bool {
     for words in &OF_THREE_WORDS {
-        if !is_as_general(setting, *words, decoder, port, other) {
-            return Some(words[0]);
+        if !setting.is_as_general(*words, bench) {
+            return false;
         }
     }
-    None
+    true
 }
 
-/// The first step of a first word goes the general way, and the next one of the same words in short; of three words the
-/// first is decoded, and the next one is found again.
-#[test]
-fn in_short_as_in_general(rt: HostRuntime) -> Result<(), AllocError> {
-    for &setting in &SETTINGS {
-        let mut decoder = Decoder::new(rt.alloc())?;
-        let mut memory = operands(rt.alloc(), setting)?;
-        let mut other = operands(rt.alloc(), setting)?;
-        assert!(rt; first_other(setting, &mut decoder, &mut memory, &mut other) == None);
-        assert!(rt; other.longs == memory.longs);
+impl Trial for Setting {
+    /// The first step of a first word goes the general way, and the next one of the same words in short; of three words
+    /// the first is decoded, and the next one is found again.
+    fn passes(&self, bench: &mut Bench) -> bool {
+        self.put_operands(&mut bench.port);
+        self.put_operands(&mut bench.other);
+        are_as_general(self, &ALONE, 0x4E71, bench)
+            && are_as_general(self, &WITH_ANOTHER, 0x0004, bench)
+            && are_found_again(self, bench)
+            && bench.other.longs == bench.port.longs
     }
-    Ok(())
 }
 
-/// Third words, one step after the other.
-static THIRDS: [u16; 5] = [0x1001, 0x1001, 0x1002, 0x1002, 0x1001];
+/// Third words, one step after the other: MOVE.L #third,D2.
+static THIRDS: [[u16; 5]; 1] = [[0x1001, 0x1001, 0x1002, 0x1002, 0x1001]];
 
 /// Whether MOVE.L #third,D2 is carried out.
-fn moves(third: u16, decoder: &mut Decoder, port: &mut VectorPort) -> bool {
-    let stepped = take_step(SETTINGS[0], [0x243C, 0, third], decoder, port);
+fn moves(third: u16, bench: &mut Bench) -> bool {
+    let stepped = SETTINGS[0].step([0x243C, 0, third], &mut bench.decoder, &mut bench.port);
     stepped.cpu.regs.d[2] == u32::from(third) && stepped.cpu.regs.pc == CODE + 6
 }
 
-/// An instruction of three words is found again where its words came before, and never in place of another one.
-#[test]
-fn three_words_are_found_by_all(rt: HostRuntime) -> Result<(), AllocError> {
-    let mut decoder = Decoder::new(rt.alloc())?;
-    let mut memory = operands(rt.alloc(), SETTINGS[0])?;
-    for &third in &THIRDS {
-        assert!(rt; moves(third, &mut decoder, &mut memory), "{third:x}");
+impl Trial for [u16; 5] {
+    /// An instruction of three words is found again where its words came before, and never in place of another one.
+    fn passes(&self, bench: &mut Bench) -> bool {
+        SETTINGS[0].put_operands(&mut bench.port);
+        for third in self {
+            if !moves(*third, bench) {
+                return false;
+            }
+        }
+        true
     }
-    Ok(())
+}
+
+#[test]
+fn short_forms(rt: HostRuntime) {
+    check(&rt, rt.alloc(), &SETTINGS);
+    check(&rt, rt.alloc(), &THIRDS);
 }
