@@ -1,6 +1,6 @@
 //! Generated sessions. The programs were worked out by another program, from the published recurrence of PCG32.
 
-use crate::machines::{board_with, run, script_of};
+use crate::boards::{board_with, run, script_of};
 use mb_board::Board;
 use mb_gen::make_session;
 use mb_model::RunState;

@@ -1,11 +1,11 @@
-//! Tests of machines and their parts: searches through tables, kept translations, shadow tables, devices, disks,
-//! boards, guests on boards, hosts, and generated sessions.
+//! Tests of machines and their parts: searches through tables, kept translations, shadow tables, devices, boards in user
+//! mode, guests' turns, and generated sessions.
 #![tactic(auto)]
 
 #[cfg(test)]
-mod devices;
+mod boards;
 #[cfg(test)]
-mod disks;
+mod devices;
 #[cfg(test)]
 mod generated;
 #[cfg(test)]
@@ -13,21 +13,15 @@ mod guest_kept;
 #[cfg(test)]
 mod guest_port;
 #[cfg(test)]
-mod guests;
-#[cfg(test)]
 mod hosts;
 #[cfg(test)]
-mod images;
-#[cfg(test)]
 mod kept;
-#[cfg(test)]
-mod machines;
 #[cfg(test)]
 mod memory;
 #[cfg(test)]
 mod shadow;
 #[cfg(test)]
-mod shown;
+mod used;
 #[cfg(test)]
 mod user_runs;
 #[cfg(test)]

@@ -1,6 +1,6 @@
 //! Boards that run in user mode: what a run counts, and by what it ends.
 
-use crate::machines::{board_with, state_of};
+use crate::boards::{board_with, state_of};
 use RunEnd::{Counted, Exit, Gone};
 use mb_board::{Board, Native, RunEnd};
 use mb_model::{Cpu, RunState};

@@ -25,8 +25,9 @@ use wanted::Difference;
 
 /// The files of rows.
 #[rattlefmt::skip]
-static TABLES: [(&str, &str); 17] = [
+static TABLES: [(&str, &str); 18] = [
     ("machines", "machines.txt"),
+    ("boards", "boards.txt"),
     ("words", "words.txt"),
     ("files", "files.txt"),
     ("scripts", "scripts.txt"),

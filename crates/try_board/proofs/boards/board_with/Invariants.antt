@@ -1,5 +1,5 @@
 use Rattle.std.proofs.Common.{◌≡◌, length}
-use Rattle.try_board.proofs.machines.board_with.Given as goal
+use Rattle.try_board.proofs.boards.board_with.Given as goal
 
 abbrev pub invariant-loop-at : goal.invariant-loop-at
 invariant-loop-at l = length l.board.world.ram ≡ 65536

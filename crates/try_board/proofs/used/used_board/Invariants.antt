@@ -1,5 +1,5 @@
 use Rattle.std.proofs.Common.{◌≡◌, length}
-use Rattle.try_board.proofs.guests.used_board.Given as goal
+use Rattle.try_board.proofs.used.used_board.Given as goal
 
 abbrev pub invariant-loop-page : goal.invariant-loop-page
 invariant-loop-page l = length l.board.world.ram ≡ 0x50000
