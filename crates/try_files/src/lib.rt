@@ -1,5 +1,5 @@
 //! Tests of what reads and writes files: shelves and sinks, the lines of a text, S-records, scripts and session files,
-//! and the text of an outcome.
+//! the text of an outcome, and snapshots.
 #![tactic(auto)]
 
 #[cfg(test)]
@@ -14,3 +14,5 @@ mod records;
 mod scripts;
 #[cfg(test)]
 mod shelves;
+#[cfg(test)]
+mod snapshots;

@@ -1,0 +1,4 @@
+//! A guest's lines of a snapshot.
+
+mod reading;
+mod written;
