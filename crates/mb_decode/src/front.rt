@@ -12,7 +12,7 @@ use crate::rows::row;
 use mb_instr::{Flow, Instr, Opcode};
 
 /// What some words begin with.
-#[derive(Clone, Copy, Debug, PartialEq, Eq)]
+#[derive(Clone, Copy, Debug)]
 pub enum Decoded {
     /// An instruction, and how many words it takes: 1 to 11.
     Whole(Instr, u8),
@@ -27,7 +27,7 @@ pub enum Decoded {
 }
 
 /// What some words begin with, where the instruction is in a place of its own.
-#[derive(Clone, Copy, Debug, PartialEq, Eq)]
+#[derive(Clone, Copy)]
 pub enum Decoding {
     /// That instruction, and how many words it takes: 1 to 11.
     Whole(u8),

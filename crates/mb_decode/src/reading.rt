@@ -8,7 +8,7 @@ ghost use Rattle.mb_decode.specs.Reading.{branch_at, trap_operand_at};
 use mb_instr::{Branch, Ea, Ext, Opcode, OperandClass, Size, TrapOperand, WordRule, is_full};
 
 /// Why no instruction was read.
-#[derive(Clone, Copy, Debug, PartialEq, Eq)]
+#[derive(Clone, Copy)]
 pub enum Stop {
     /// The words ended, and others can complete the instruction.
     More,

@@ -8,7 +8,7 @@ ghost use Rattle.mb_instr.specs.ControlRows.{row_said};
 use mb_port::MmuReg;
 
 /// A control register: one that MOVEC names.
-#[derive(Clone, Copy, Debug, PartialEq, Eq)]
+#[derive(Clone, Copy)]
 pub enum ControlRegister {
     Sfc,
     Dfc,

@@ -11,7 +11,7 @@ use crate::operand::Ea;
 use crate::size::Size;
 
 /// What moves values, addresses and conditions.
-#[derive(Clone, Copy, Debug, PartialEq, Eq)]
+#[derive(Clone, Copy, Debug)]
 pub enum Move {
     /// `EXG`.
     Exg {
@@ -110,7 +110,7 @@ pub enum Move {
 }
 
 /// What computes.
-#[derive(Clone, Copy, Debug, PartialEq, Eq)]
+#[derive(Clone, Copy, Debug)]
 pub enum Arith {
     /// `ABCD`; in memory both are `-(An)`. y is the source.
     Abcd {
@@ -397,7 +397,7 @@ pub enum Arith {
 }
 
 /// What goes elsewhere.
-#[derive(Clone, Copy, Debug, PartialEq, Eq)]
+#[derive(Clone, Copy, Debug)]
 pub enum Flow {
     /// `Bcc`; condition T is `BRA`, and F is `BSR`.
     Bcc {
@@ -454,7 +454,7 @@ pub enum Flow {
 }
 
 /// What only a supervisor does.
-#[derive(Clone, Copy, Debug, PartialEq, Eq)]
+#[derive(Clone, Copy, Debug)]
 pub enum System {
     /// `ANDI` to SR.
     AndiSr {
@@ -526,7 +526,7 @@ pub enum System {
 
 /// An instruction: one variant of its family for each row of the table of encodings. Register
 /// numbers are 0 to 7, words and displacements are as they are spelled.
-#[derive(Clone, Copy, Debug, PartialEq, Eq)]
+#[derive(Clone, Copy, Debug)]
 pub enum Instr {
     Move(Move),
     Arith(Arith),
@@ -535,7 +535,7 @@ pub enum Instr {
 }
 
 /// The four families of instructions.
-#[derive(Clone, Copy, Debug, PartialEq, Eq)]
+#[derive(Clone, Copy, Debug)]
 pub enum Family {
     Move,
     Arith,

@@ -10,7 +10,7 @@ use crate::operand::OperandClass;
 use crate::rule::WordRule;
 
 /// What BTST, BCHG, BCLR and BSET do to the bit.
-#[derive(Clone, Copy, Debug, PartialEq, Eq)]
+#[derive(Clone, Copy, Debug)]
 pub enum BitKind {
     Test,
     Change,
@@ -48,7 +48,7 @@ impl BitKind {
 }
 
 /// What enters an operand that is shifted.
-#[derive(Clone, Copy, Debug, PartialEq, Eq)]
+#[derive(Clone, Copy, Debug)]
 pub enum ShiftKind {
     /// 0 to the left, the sign to the right.
     Arithmetic,
@@ -90,7 +90,7 @@ impl ShiftKind {
 }
 
 /// What a bit field instruction does.
-#[derive(Clone, Copy, Debug, PartialEq, Eq)]
+#[derive(Clone, Copy, Debug)]
 pub enum FieldKind {
     Test,
     ExtractUnsigned,
@@ -140,7 +140,7 @@ impl FieldKind {
 }
 
 /// Between what MOVE16 with an absolute address moves a line.
-#[derive(Clone, Copy, Debug, PartialEq, Eq)]
+#[derive(Clone, Copy, Debug)]
 pub enum LineMove {
     /// From `(An)+`.
     PostToAbsolute,
@@ -182,7 +182,7 @@ impl LineMove {
 }
 
 /// Which caches CINV and CPUSH name.
-#[derive(Clone, Copy, Debug, PartialEq, Eq)]
+#[derive(Clone, Copy, Debug)]
 pub enum Caches {
     Neither,
     Data,
@@ -220,7 +220,7 @@ impl Caches {
 }
 
 /// Which kept translations PFLUSH drops.
-#[derive(Clone, Copy, Debug, PartialEq, Eq)]
+#[derive(Clone, Copy, Debug)]
 pub enum FlushKind {
     /// Those of a page that are not global.
     LocalPage,
@@ -261,7 +261,7 @@ impl FlushKind {
 }
 
 /// How much of the caches CINV and CPUSH name.
-#[derive(Clone, Copy, Debug, PartialEq, Eq)]
+#[derive(Clone, Copy, Debug)]
 pub enum CacheScope {
     Line,
     Page,
@@ -297,7 +297,7 @@ impl CacheScope {
 }
 
 /// What Scc, DBcc, TRAPcc and Bcc ask of the condition codes.
-#[derive(Clone, Copy, Debug, PartialEq, Eq)]
+#[derive(Clone, Copy, Debug)]
 pub enum Condition {
     True,
     False,
@@ -388,7 +388,7 @@ impl Condition {
 }
 
 /// Which registers EXG exchanges.
-#[derive(Clone, Copy, Debug, PartialEq, Eq)]
+#[derive(Clone, Copy, Debug)]
 pub enum Exchange {
     /// Two data registers.
     Data,
@@ -399,7 +399,7 @@ pub enum Exchange {
 }
 
 /// How far a branch goes, as it is spelled: in its first word, in one more word, or in two.
-#[derive(Clone, Copy, Debug, PartialEq, Eq)]
+#[derive(Clone, Copy, Debug)]
 pub enum Branch {
     /// Neither 0 nor $FF.
     Byte(u8),
@@ -408,7 +408,7 @@ pub enum Branch {
 }
 
 /// What stands behind TRAPcc, for the handler alone.
-#[derive(Clone, Copy, Debug, PartialEq, Eq)]
+#[derive(Clone, Copy, Debug)]
 pub enum TrapOperand {
     Word(u16),
     Long(u32),

@@ -7,7 +7,7 @@ ghost use Rattle.mb_instr.specs.Operands.{allows, is_control, is_control_alterab
 use crate::size::Size;
 
 /// The extension words behind an indexed operand.
-#[derive(Clone, Copy, Debug, PartialEq, Eq)]
+#[derive(Clone, Copy, Debug)]
 pub enum Ext {
     /// `rnnn lkk0 dddddddd`.
     Brief(u16),
@@ -17,7 +17,7 @@ pub enum Ext {
 
 /// An operand as an addressing mode names it. Register numbers are 0 to 7, displacements are as they
 /// are spelled, without sign extension.
-#[derive(Clone, Copy, Debug, PartialEq, Eq)]
+#[derive(Clone, Copy, Debug)]
 pub enum Ea {
     /// `Dn`.
     Dn(u8),
@@ -115,7 +115,7 @@ impl Ea {
 }
 
 /// Which operands a row of the table takes.
-#[derive(Clone, Copy, Debug, PartialEq, Eq)]
+#[derive(Clone, Copy)]
 pub enum OperandClass {
     /// Every operand; `An` only as a word or a long.
     All,

@@ -20,19 +20,29 @@ pub fn read_back(i: &Instr) -> Result<Decoded, Unencodable>
     }
 }
 
-/// Whether the instruction that a first word begins, with words of zeros behind it, is written as it was read.
+/// Whether an instruction is written with these words.
+fn is_written(instruction: &Instr, words: &[u16]) -> bool {
+    match encode(instruction) {
+        Ok(written) => words == written.as_slice(),
+        Err(_) => false,
+    }
+}
+
+/// Whether the instruction that a first word begins, with words of zeros behind it, is written as it was read, and what
+/// is read of that too.
 fn is_written_again(first: u16) -> bool {
     let words = [first, 0, 0, 0, 0, 0, 0, 0, 0, 0, 0];
-    let decoded = decode(&words);
-    let Decoded::Whole(instruction, length) = decoded else {
+    let Decoded::Whole(instruction, length) = decode(&words) else {
         return true;
     };
-    match encode(&instruction) {
-        Ok(written) => {
-            words.get(..usize::from(length)) == Some(written.as_slice())
-                && read_back(&instruction) == Ok(decoded)
-        }
-        Err(_) => false,
+    let Some(words) = words.get(..usize::from(length)) else {
+        return false;
+    };
+    match read_back(&instruction) {
+        Ok(Decoded::Whole(again, count)) => count == length
+            && is_written(&instruction, words)
+            && is_written(&again, words),
+        _ => false,
     }
 }
 
