@@ -282,21 +282,54 @@ resumed_with _ _ = None
 abbrev pub resumed_snapshot : List Use → Option Resumption
 resumed_snapshot uses = resumed_with (said_by name_of (codes "FILE") uses) (steps_said uses)
 
+-- what the words behind `bare` ask for
+unfoldable pub bare_asked : List Text → Option Run
+bare_asked words = option_and_then bare_run (read bare_form words)
+
+-- what the words behind `asm` ask for
+unfoldable pub asm_asked : List Text → Option Text
+asm_asked words = option_and_then asm_source (read asm_form words)
+
+-- what the words behind `dis` ask for
+unfoldable pub dis_asked : List Text → Option Excerpt
+dis_asked words = option_and_then dis_excerpt (read dis_form words)
+
+-- what the words behind `host` ask for
+unfoldable pub host_asked : List Text → Option Text
+host_asked words = option_and_then session_named (read host_form words)
+
+-- what the words behind `compare` ask for
+unfoldable pub compare_asked : List Text → Option Text
+compare_asked words = option_and_then session_named (read compare_form words)
+
+-- what the words behind `gen` ask for
+unfoldable pub gen_asked : List Text → Option Workload
+gen_asked words = option_and_then gen_workload (read gen_form words)
+
+-- what the words behind `debug` ask for
+unfoldable pub debug_asked : List Text → Option Debugged
+debug_asked words = option_and_then debugged_guest (read debug_form words)
+
+-- what the words behind `save` ask for
+unfoldable pub save_asked : List Text → Option SavePoint
+save_asked words = option_and_then saved_session (read save_form words)
+
+-- what the words behind `resume` ask for
+unfoldable pub resume_asked : List Text → Option Resumption
+resume_asked words = option_and_then resumed_snapshot (read resume_form words)
+
 -- What the words ask for: `PROGRAM COMMAND`, and then the command's own words in its form. Other words ask
 -- for nothing.
 unfoldable pub asked_by : List Text → Option Asked
 asked_by (program ∷ name ∷ words) =
-    if bytes_eq name (codes "bare") then option_map bare (option_and_then bare_run (read bare_form words))
-    else if bytes_eq name (codes "asm") then option_map assembly (option_and_then asm_source (read asm_form words))
-    else if bytes_eq name (codes "dis") then option_map disassembly (option_and_then dis_excerpt (read dis_form words))
-    else if bytes_eq name (codes "host") then option_map hosting (option_and_then session_named (read host_form words))
-    else if bytes_eq name (codes "compare")
-    then option_map comparison (option_and_then session_named (read compare_form words))
-    else if bytes_eq name (codes "gen") then option_map generation (option_and_then gen_workload (read gen_form words))
-    else if bytes_eq name (codes "debug")
-    then option_map debugging (option_and_then debugged_guest (read debug_form words))
-    else if bytes_eq name (codes "save") then option_map saving (option_and_then saved_session (read save_form words))
-    else if bytes_eq name (codes "resume")
-    then option_map resuming (option_and_then resumed_snapshot (read resume_form words))
+    if bytes_eq name (codes "bare") then option_map bare (bare_asked words)
+    else if bytes_eq name (codes "asm") then option_map assembly (asm_asked words)
+    else if bytes_eq name (codes "dis") then option_map disassembly (dis_asked words)
+    else if bytes_eq name (codes "host") then option_map hosting (host_asked words)
+    else if bytes_eq name (codes "compare") then option_map comparison (compare_asked words)
+    else if bytes_eq name (codes "gen") then option_map generation (gen_asked words)
+    else if bytes_eq name (codes "debug") then option_map debugging (debug_asked words)
+    else if bytes_eq name (codes "save") then option_map saving (save_asked words)
+    else if bytes_eq name (codes "resume") then option_map resuming (resume_asked words)
     else None
 asked_by _ = None

@@ -1,9 +1,8 @@
 //! The words of the command `asm`.
 
-ghost use Rattle.std.specs.Prelude.{◌≡◌, map, option_and_then, option_map, string_bytes};
-ghost use Rattle.mb_forms.specs.Forms.{read};
+ghost use Rattle.std.specs.Prelude.{◌≡◌, map, option_map, string_bytes};
 ghost use Rattle.mb_forms.specs.Said.{ReadsAs};
-ghost use Rattle.mb_words.specs.Words.{asm_form, asm_source, source_said};
+ghost use Rattle.mb_words.specs.Words.{asm_asked, asm_source, source_said};
 
 use crate::asm::Asm;
 use crate::values::name;
@@ -26,9 +25,9 @@ fn source_of<'a>(uses: &Uses<'a>) -> Option<Asm<'a>>
 }
 
 /// Reads the words behind `asm`.
+#[tactic(auto, unfolding(crate::specs::Words::asm_asked))]
 pub(crate) fn read_asm<'a>(alloc: Global, words: &'a [String]) -> Result<Asm<'a>, WordsFault>
-    ensures { ReadsAs source_said
-        (option_and_then asm_source (read asm_form (map string_bytes words.entry.now))) result }
+    ensures { ReadsAs source_said (asm_asked (map string_bytes words.entry.now)) result }
 {
     let uses = parse(alloc, &FORM, words)?;
     source_of(&uses).ok_or(WordsFault::Refused)

@@ -1,9 +1,8 @@
 //! The words of the command `bare`.
 
-ghost use Rattle.std.specs.Prelude.{◌≡◌, map, option_and_then, option_map, string_bytes};
-ghost use Rattle.mb_forms.specs.Forms.{read};
+ghost use Rattle.std.specs.Prelude.{◌≡◌, map, option_map, string_bytes};
 ghost use Rattle.mb_forms.specs.Said.{ReadsAs};
-ghost use Rattle.mb_words.specs.Words.{bare_disk, bare_form, bare_run, disk_said, run_said};
+ghost use Rattle.mb_words.specs.Words.{bare_asked, bare_disk, bare_run, disk_said, run_said};
 
 use crate::bare::{Bare, BareDisk};
 use crate::values::{blocks_if_given, name, name_if_given, ram, ranged};
@@ -70,8 +69,9 @@ fn run_of<'a>(uses: &Uses<'a>) -> Option<Bare<'a>>
 }
 
 /// Reads the words behind `bare`.
+#[tactic(auto, unfolding(crate::specs::Words::bare_asked))]
 pub(crate) fn read_bare<'a>(alloc: Global, words: &'a [String]) -> Result<Bare<'a>, WordsFault>
-    ensures { ReadsAs run_said (option_and_then bare_run (read bare_form (map string_bytes words.entry.now))) result }
+    ensures { ReadsAs run_said (bare_asked (map string_bytes words.entry.now)) result }
 {
     let uses = parse(alloc, &FORM, words)?;
     run_of(&uses).ok_or(WordsFault::Refused)

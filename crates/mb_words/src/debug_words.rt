@@ -1,9 +1,8 @@
 //! The words of the command `debug`.
 
-ghost use Rattle.std.specs.Prelude.{◌≡◌, map, option_and_then, option_map, string_bytes};
-ghost use Rattle.mb_forms.specs.Forms.{read};
+ghost use Rattle.std.specs.Prelude.{◌≡◌, map, option_map, string_bytes};
 ghost use Rattle.mb_forms.specs.Said.{ReadsAs};
-ghost use Rattle.mb_words.specs.Words.{debug_form, debugged_guest, debugged_said};
+ghost use Rattle.mb_words.specs.Words.{debug_asked, debugged_guest, debugged_said};
 
 use crate::debug_guest::DebugGuest;
 use crate::values::{guests, name};
@@ -35,12 +34,12 @@ fn guest_of<'a>(uses: &Uses<'a>) -> Option<DebugGuest<'a>>
 }
 
 /// Reads the words behind `debug`.
+#[tactic(auto, unfolding(crate::specs::Words::debug_asked))]
 pub(crate) fn read_debug<'a>(
     alloc: Global,
     words: &'a [String],
 ) -> Result<DebugGuest<'a>, WordsFault>
-    ensures { ReadsAs debugged_said
-        (option_and_then debugged_guest (read debug_form (map string_bytes words.entry.now))) result }
+    ensures { ReadsAs debugged_said (debug_asked (map string_bytes words.entry.now)) result }
 {
     let uses = parse(alloc, &FORM, words)?;
     guest_of(&uses).ok_or(WordsFault::Refused)

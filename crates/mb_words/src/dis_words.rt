@@ -1,9 +1,8 @@
 //! The words of the command `dis`.
 
-ghost use Rattle.std.specs.Prelude.{◌≡◌, map, option_and_then, option_map, string_bytes};
-ghost use Rattle.mb_forms.specs.Forms.{read};
+ghost use Rattle.std.specs.Prelude.{◌≡◌, map, option_map, string_bytes};
 ghost use Rattle.mb_forms.specs.Said.{ReadsAs};
-ghost use Rattle.mb_words.specs.Words.{dis_form, dis_excerpt, excerpt_said};
+ghost use Rattle.mb_words.specs.Words.{dis_asked, dis_excerpt, excerpt_said};
 
 use crate::dis::Dis;
 use crate::values::{name, ram, ranged, word_address};
@@ -47,9 +46,9 @@ fn excerpt_of<'a>(uses: &Uses<'a>) -> Option<Dis<'a>>
 }
 
 /// Reads the words behind `dis`.
+#[tactic(auto, unfolding(crate::specs::Words::dis_asked))]
 pub(crate) fn read_dis<'a>(alloc: Global, words: &'a [String]) -> Result<Dis<'a>, WordsFault>
-    ensures { ReadsAs excerpt_said
-        (option_and_then dis_excerpt (read dis_form (map string_bytes words.entry.now))) result }
+    ensures { ReadsAs excerpt_said (dis_asked (map string_bytes words.entry.now)) result }
 {
     let uses = parse(alloc, &FORM, words)?;
     excerpt_of(&uses).ok_or(WordsFault::Refused)

@@ -1,9 +1,8 @@
 //! The words of the command `gen`.
 
-ghost use Rattle.std.specs.Prelude.{◌≡◌, map, option_and_then, option_map, string_bytes};
-ghost use Rattle.mb_forms.specs.Forms.{read};
+ghost use Rattle.std.specs.Prelude.{◌≡◌, map, option_map, string_bytes};
 ghost use Rattle.mb_forms.specs.Said.{ReadsAs};
-ghost use Rattle.mb_words.specs.Words.{gen_form, gen_workload, workload_said};
+ghost use Rattle.mb_words.specs.Words.{gen_asked, gen_workload, workload_said};
 
 use crate::generate::Generate;
 use crate::values::{guests, ranged};
@@ -36,9 +35,9 @@ fn workload_of(uses: &Uses) -> Option<Generate>
 }
 
 /// Reads the words behind `gen`.
+#[tactic(auto, unfolding(crate::specs::Words::gen_asked))]
 pub(crate) fn read_gen(alloc: Global, words: &[String]) -> Result<Generate, WordsFault>
-    ensures { ReadsAs workload_said
-        (option_and_then gen_workload (read gen_form (map string_bytes words.entry.now))) result }
+    ensures { ReadsAs workload_said (gen_asked (map string_bytes words.entry.now)) result }
 {
     let uses = parse(alloc, &FORM, words)?;
     workload_of(&uses).ok_or(WordsFault::Refused)

@@ -1,10 +1,9 @@
 //! The words of the commands on snapshots.
 
-ghost use Rattle.std.specs.Prelude.{◌≡◌, map, option_and_then, option_map, string_bytes};
-ghost use Rattle.mb_forms.specs.Forms.{read};
+ghost use Rattle.std.specs.Prelude.{◌≡◌, map, option_map, string_bytes};
 ghost use Rattle.mb_forms.specs.Said.{ReadsAs};
-ghost use Rattle.mb_words.specs.Words.{resume_form, resumed_snapshot, resumption_said};
-ghost use Rattle.mb_words.specs.Words.{save_form, saved_session, saving_said};
+ghost use Rattle.mb_words.specs.Words.{resume_asked, resumed_snapshot, resumption_said};
+ghost use Rattle.mb_words.specs.Words.{save_asked, saved_session, saving_said};
 
 use crate::snapshot::{ResumeSnapshot, SaveSession};
 use crate::values::{name, ranged};
@@ -50,24 +49,24 @@ fn snapshot_of<'a>(uses: &Uses<'a>) -> Option<ResumeSnapshot<'a>>
 }
 
 /// Reads the words behind `save`.
+#[tactic(auto, unfolding(crate::specs::Words::save_asked))]
 pub(crate) fn read_save<'a>(
     alloc: Global,
     words: &'a [String],
 ) -> Result<SaveSession<'a>, WordsFault>
-    ensures { ReadsAs saving_said
-        (option_and_then saved_session (read save_form (map string_bytes words.entry.now))) result }
+    ensures { ReadsAs saving_said (save_asked (map string_bytes words.entry.now)) result }
 {
     let uses = parse(alloc, &SAVE, words)?;
     session_of(&uses).ok_or(WordsFault::Refused)
 }
 
 /// Reads the words behind `resume`.
+#[tactic(auto, unfolding(crate::specs::Words::resume_asked))]
 pub(crate) fn read_resume<'a>(
     alloc: Global,
     words: &'a [String],
 ) -> Result<ResumeSnapshot<'a>, WordsFault>
-    ensures { ReadsAs resumption_said
-        (option_and_then resumed_snapshot (read resume_form (map string_bytes words.entry.now))) result }
+    ensures { ReadsAs resumption_said (resume_asked (map string_bytes words.entry.now)) result }
 {
     let uses = parse(alloc, &RESUME, words)?;
     snapshot_of(&uses).ok_or(WordsFault::Refused)

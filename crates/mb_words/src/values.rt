@@ -1,6 +1,6 @@
 //! What a value of the command line says by itself.
 
-ghost use Rattle.std.specs.Prelude.{◌≡◌, ◌*◌, ◌%◌, ◌<◌, IfSome, option_map};
+ghost use Rattle.std.specs.Prelude.{◌≡◌, ◌*◌, ◌%◌, ◌<◌, ◌≤◌, IfSome, option_map};
 ghost use Rattle.mb_script.specs.Plan.{IsBlocks, IsRam};
 ghost use Rattle.mb_forms.specs.Said.{text_said};
 ghost use Rattle.mb_words.specs.Values.{IsGuestCount, digit_of, file_said, guests_of, hex_of, if_given, name_of};
@@ -48,7 +48,8 @@ fn number(text: &str) -> Option<u64>
 
 /// A number from the least to the most.
 pub(crate) fn ranged(least: u32, most: u32, text: &str) -> Option<u32>
-    ensures { result ≡ ranged least most text.now }
+    ensures given { result ≡ ranged least most text.now }
+    ensures in_range { IfSome result (λ value. (least ≤ value) × (value ≤ most)) }
 {
     let value = number(text)?;
     if value < u64::from(least) || value > u64::from(most) {

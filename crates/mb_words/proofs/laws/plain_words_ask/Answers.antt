@@ -2,7 +2,7 @@ use Rattle.std.proofs.Common.{◌≡◌, ◌==◌, ℕ, [], ◌∷◌, length, S
 use Rattle.std.proofs.lemmas.Bool.{ne_eqb}
 use Rattle.mb_forms.specs.Forms.{Text, ends_options}
 use Rattle.mb_words.specs.Values.{name_of}
-use Rattle.mb_words.specs.Words.{asked_by}
+use Rattle.mb_words.specs.Words.{asked_by, compare_asked, host_asked}
 use Rattle.mb_words.specs.Plain.{CompareAsks, HostAsks}
 use Rattle.mb_words.proofs.laws.plain_words_ask.Goals as goal
 
@@ -15,12 +15,12 @@ named : (c : ℕ) (cs : Text) → name_of (c ∷ cs) ≡ Some (c ∷ cs)
 named c cs = rw (ne_eqb (length (c ∷ cs)) 0 (λ e. absurd cc)) refl
 
 host_asks : HostAsks
-unfolding asked_by
+unfolding asked_by host_asked
 host_asks program [] some plain = absurd (omega (arith, some))
 host_asks program (c ∷ cs) some plain = rw (goes_on c cs plain, plain, named c cs) refl
 
 compare_asks : CompareAsks
-unfolding asked_by
+unfolding asked_by compare_asked
 compare_asks program [] some plain = absurd (omega (arith, some))
 compare_asks program (c ∷ cs) some plain = rw (goes_on c cs plain, plain, named c cs) refl
 
