@@ -8,8 +8,8 @@ use mb_step::StepEnd::{self, Idle, Went};
 
 /// What becomes of an interrupt, and of STOP.
 enum Turn {
-    /// An interrupt of level 6 goes to the master stack and the interrupt stack, and the handler returns, since an equal
-    /// mask holds the next one.
+    /// An interrupt of level 6 goes to the master stack and the interrupt stack, and the handler returns, since an
+    /// equal mask holds the next one.
     Both,
     /// The interrupt stack refuses its frame: an access error is entered on the master stack.
     One,
