@@ -7,8 +7,8 @@ ghost use Rattle.mb_short.specs.Changed.{Differ};
 ghost use Rattle.mb_model.specs.Keeping.{rule_a};
 ghost use Rattle.mb_model.specs.Seen.{seen_of};
 ghost use Rattle.mb_model.specs.Status.{space_of};
-ghost use Rattle.mb_srec.specs.Image.{all_contents, content_of, LiesBelow};
-ghost use Rattle.mb_walk.specs.Memory.{chunk_from, contents_from, overwritten, with_contents};
+ghost use Rattle.mb_srec.specs.Image.{all_contents, LiesBelow};
+ghost use Rattle.mb_walk.specs.Memory.{contents_from, overwritten, with_contents};
 ghost use Rattle.mb_devices.specs.Devices.{idle, restarted};
 ghost use Rattle.mb_port.specs.Routine.{run};
 ghost use Rattle.def_processor.specs.Raise.{step_end};
@@ -32,7 +32,7 @@ use mb_model::{Cpu, Outcome, RunState};
 use mb_outside::Memory;
 use mb_port::Space;
 use mb_script::Script;
-use mb_srec::Chunk;
+use mb_srec::{Chunk, put_chunks};
 use mb_step::{Changed, Decoder, Processor, step_at_once, step_by_row, step_in_place};
 use mb_walk::Ram;
 use std::alloc::Global;
@@ -270,20 +270,6 @@ impl Board {
         self.core.bus.overwrite(at, bytes);
     }
 
-    /// Writes a chunk that lies in RAM, its address counted from `base` on.
-    #[tactic(auto, using(mb_walk::proofs::MemoryLemmas::writes))]
-    fn load_chunk(&mut self, base: u32, chunk: &Chunk)
-        requires lies { LiesBelow (length self.old.world.ram) (chunk_from base (content_of chunk.now)) }
-        ensures after { self.new ≡ with_machine self.old (with_ram (machine_in self.old)
-            (overwritten self.old.world.ram (base + (content_of chunk.now).0) (content_of chunk.now).1)) }
-        ensures size { length self.new.world.ram ≡ length self.old.world.ram }
-    {
-        let _size = self.size();
-        if !chunk.bytes().is_empty() {
-            self.write_phys(base + chunk.at(), chunk.bytes());
-        }
-    }
-
     /// Writes chunks that lie in RAM, later ones over earlier ones, their addresses counted from `base` on.
     pub fn load(&mut self, base: u32, chunks: &[Chunk])
         requires lie { All (LiesBelow (length self.old.world.ram)) (contents_from base (all_contents chunks.now)) }
@@ -291,9 +277,7 @@ impl Board {
             (with_contents self.old.world.ram (contents_from base (all_contents chunks.now)))) }
         ensures size { length self.new.world.ram ≡ length self.old.world.ram }
     {
-        for chunk in chunks {
-            self.load_chunk(base, chunk);
-        }
+        put_chunks(&mut self.core.bus.ram, base, chunks);
     }
 
     /// So many bytes of RAM from a physical address on.

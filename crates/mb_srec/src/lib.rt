@@ -16,5 +16,6 @@ mod writing;
 
 pub use fault::{ImageFault, RecordWhy};
 pub use image::{Chunk, Image};
+pub use loading::put_chunks;
 pub use reading::read_image;
 pub use writing::{write_records, written_reads_back};
