@@ -1,6 +1,6 @@
 -- What a refused access tells and leaves.
 use Rattle.std.proofs.Common.{◌≡◌, ℕ, refl}
-use Rattle.std.specs.Prelude.{Option, Some, None, is_none, Err}
+use Rattle.std.specs.Prelude.{Option, Some, None, is_none, ok_or, Err}
 use Rattle.mb_port.specs.declared.types.Place.{Place}
 use Rattle.mb_port.specs.declared.types.Fault.{Fault}
 use Rattle.mb_port.specs.Routine.{Call, Fetch, Read, Write, ReadLine, WriteLine, Probe, Get, Put, ReadMmu, SetMmu, FlushKept, Test, ResetDevices}
@@ -14,7 +14,7 @@ use Rattle.def_machine.specs.declared.reference.Settled.TheVariants.{To, Refused
 use Rattle.def_machine.specs.World.{World}
 use Rattle.def_machine.specs.Places.{Stand, memory, register, nowhere, taken, taken_at, stored, stored_line, checked, taken_line}
 use Rattle.def_machine.specs.Access.{search_for, searched, translated, by_settled, by_found}
-use Rattle.def_machine.specs.Bus.{bus_of, answered, read_at, written_at, wrote, fault_of}
+use Rattle.def_machine.specs.Bus.{bus_of, read_at, written_at, wrote, fault_of}
 use Rattle.def_machine.specs.Laws.{WasRefused, CallWasRefused, IsBeside}
 
 -- ---- reads
@@ -27,11 +27,11 @@ pub record Refusal (r : Reference) (len : ℕ) (o : Option ℕ) (w : World) (fau
   pub told : fault ≡ fault_of r len (is_none o)
   pub left : after ≡ w
 
-nothing_answered : {A : Type 0} → (o : Option A) (f fault : Fault) → answered o f ≡ Err fault → o ≡ None
+nothing_answered : {A : Type 0} → (o : Option A) (f fault : Fault) → ok_or o f ≡ Err fault → o ≡ None
 nothing_answered (Some a) f fault h = absurd (cc)
 nothing_answered None f fault h = refl
 
-told_answered : {A : Type 0} → (o : Option A) (f fault : Fault) → answered o f ≡ Err fault → fault ≡ f
+told_answered : {A : Type 0} → (o : Option A) (f fault : Fault) → ok_or o f ≡ Err fault → fault ≡ f
 told_answered (Some a) f fault h = absurd (cc)
 told_answered None f fault h = cc
 

@@ -1,6 +1,6 @@
 -- The bus of a machine by a rule of keeping.
 use Rattle.std.specs.Prelude.{ℕ, Bool, true, false, bit_and, Option, Some, None, Result, Ok, Err}
-use Rattle.std.specs.Prelude.{unwrap_or}
+use Rattle.std.specs.Prelude.{ok_or, unwrap_or}
 use Rattle.mb_port.specs.Routine.{Bus, Call, Fetch, Read, Write, ReadLine, WriteLine, Probe, Get, Put, ReadMmu, SetMmu}
 use Rattle.mb_port.specs.Routine.{FlushKept, Test, ResetDevices}
 use Rattle.mb_port.specs.declared.types.Space.{Space}
@@ -50,13 +50,9 @@ place_at at len = record { at = at; len = len }
 
 -- ---- reads and writes behind their translation
 
-abbrev pub answered : {A : Type 0} → Option A → Fault → Result A Fault
-answered (Some a) fault = Ok a
-answered None fault = Err fault
-
 -- what a place answers, or the fault
 abbrev pub faulting : {A : Type 0} → Option A × World → Fault → Result A Fault × World
-faulting (answer, after) fault = (answered answer fault, after)
+faulting (answer, after) fault = (ok_or answer fault, after)
 
 -- what reads a place
 abbrev pub Take : Type 0 → Type 0

@@ -7,6 +7,7 @@
 #![tactic(auto)]
 
 mod laws;
+mod lines;
 mod reference;
 mod registers;
 mod settling;
@@ -15,6 +16,7 @@ pub use laws::{
     accesses_stand_beneath, devices_keep_their_build, entries_are_stacked, memory_keeps_its_size,
     memory_stays_bytes, refused_accesses,
 };
+pub use lines::{store_line, take_line};
 pub use reference::{Reference, Settled};
 pub use registers::{MMU_AT_RESET, MMUSR_MATCHED};
 pub use settling::{admits, by_entry, marks, root, through, untranslated};

@@ -1,6 +1,7 @@
 -- What routines over the held bus answer: parts of instructions, whatever the guest.
 use Rattle.std.proofs.Common.{◌≡◌, ℕ, ◌+◌, ◌^◌, ◌<◌, Bool, true, false, List, [], ◌∷◌, arith, refl, ap, sym, subst, ◌∙◌, drop}
 use Rattle.std.proofs.Common.{Option, Some, None, Result, Ok, Err, inl, inr}
+use Rattle.std.specs.Prelude.{ok_or}
 use Rattle.std.proofs.lemmas.Bool.{cases_Bool}
 use Rattle.std.proofs.lemmas.List.Elements.{All-drop, All-nil, All-cons}
 use Rattle.mb_port.specs.Routine.{Routine, Return, ◌>>=◌, run, choose, tried, other_fault, failing, sure}
@@ -14,7 +15,7 @@ use Rattle.def_machine.specs.World.{World}
 use Rattle.def_machine.specs.declared.reference.Reference.{Reference}
 use Rattle.def_machine.specs.Places.{taken, stored, checked, taken_line, stored_line, line_at}
 use Rattle.def_machine.specs.Access.{translated}
-use Rattle.def_machine.specs.Bus.{fetching_of, reading_of, writing_of, fault_of, place_at, answered, Take, Store, read_at, read_by, wrote, written_at}
+use Rattle.def_machine.specs.Bus.{fetching_of, reading_of, writing_of, fault_of, place_at, Take, Store, read_at, read_by, wrote, written_at}
 use Rattle.law_tells.specs.Guarded.{IsLine}
 use Rattle.law_tells.specs.Laws.{AreLongs}
 use Rattle.def_guests.specs.Guests.{Guest, allows, placed_at}
@@ -80,7 +81,7 @@ answers_sure m = record { are = λ g. tt }
 abbrev pub FaultFits : Fault → Type 0
 FaultFits f = IsLong f.at
 
-answered_at : {A : Type 0} (o : Option A) (r : Reference) (len : ℕ) (atc : Bool) → IsLong r.at → IsAnswer any FaultFits (answered o (fault_of r len atc))
+answered_at : {A : Type 0} (o : Option A) (r : Reference) (len : ℕ) (atc : Bool) → IsLong r.at → IsAnswer any FaultFits (ok_or o (fault_of r len atc))
 answered_at (Some a) r len atc h = tt
 answered_at None r len atc h = h
 

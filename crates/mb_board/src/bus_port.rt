@@ -8,7 +8,7 @@ ghost use Rattle.def_machine.specs.World.{World};
 ghost use Rattle.def_machine.specs.Bus.{bus_of};
 
 use crate::bus::BoardBus;
-use def_machine::Reference;
+use def_machine::{Reference, store_line, take_line};
 use mb_instr::ControlRegister;
 use mb_port::{Fault, Flush, Mmu, MmuReg, Piece, Place, Port, Space};
 
@@ -33,37 +33,25 @@ impl Port for BoardBus {
     #[inline(never)]
     fn fetch(&mut self, space: Space, at: u32) -> Result<u16, Fault> {
         let r = Reference::fetching(space, at);
-        let Some(at) = self.translated(r) else {
-            return Err(r.refused(2, true));
-        };
-        match self.take(Place { at, len: 2 }) {
-            Some(word) => Ok(word as u16),
-            None => Err(r.refused(2, false)),
-        }
+        let at = self.translated(r).ok_or(r.refused(2, true))?;
+        let word = self.take(Place { at, len: 2 }).ok_or(r.refused(2, false))?;
+        Ok(word as u16)
     }
 
     #[inline(never)]
     fn read(&mut self, space: Space, piece: Piece) -> Result<u32, Fault> {
         let r = Reference::reading(space, piece.at);
-        let Some(at) = self.translated(r) else {
-            return Err(r.refused(piece.len, true));
-        };
-        match self.take(Place { at, len: piece.len }) {
-            Some(value) => Ok(value),
-            None => Err(r.refused(piece.len, false)),
-        }
+        let at = self.translated(r).ok_or(r.refused(piece.len, true))?;
+        self.take(Place { at, len: piece.len })
+            .ok_or(r.refused(piece.len, false))
     }
 
     #[inline(never)]
     fn write(&mut self, space: Space, piece: Piece, value: u32) -> Result<(), Fault> {
         let r = Reference::writing(space, piece.at);
-        let Some(at) = self.translated(r) else {
-            return Err(r.refused(piece.len, true));
-        };
-        match self.store(Place { at, len: piece.len }, value) {
-            Some(()) => Ok(()),
-            None => Err(r.refused(piece.len, false)),
-        }
+        let at = self.translated(r).ok_or(r.refused(piece.len, true))?;
+        self.store(Place { at, len: piece.len }, value)
+            .ok_or(r.refused(piece.len, false))
     }
 
     #[inline(always)]
@@ -89,24 +77,14 @@ impl Port for BoardBus {
 
     fn read_line(&mut self, space: Space, at: u32) -> Result<[u32; 4], Fault> {
         let r = Reference::reading(space, at);
-        let Some(at) = self.translated(r) else {
-            return Err(r.refused(16, true));
-        };
-        match self.take_line(Place { at, len: 16 }) {
-            Some(line) => Ok(line),
-            None => Err(r.refused(16, false)),
-        }
+        let at = self.translated(r).ok_or(r.refused(16, true))?;
+        take_line(self, at).ok_or(r.refused(16, false))
     }
 
     fn write_line(&mut self, space: Space, at: u32, value: [u32; 4]) -> Result<(), Fault> {
         let r = Reference::writing(space, at);
-        let Some(at) = self.translated(r) else {
-            return Err(r.refused(16, true));
-        };
-        match self.store_line(Place { at, len: 16 }, value) {
-            Some(()) => Ok(()),
-            None => Err(r.refused(16, false)),
-        }
+        let at = self.translated(r).ok_or(r.refused(16, true))?;
+        store_line(self, at, value).ok_or(r.refused(16, false))
     }
 
     fn probe(&mut self, space: Space, piece: Piece) -> Result<Place, Fault> {
@@ -114,9 +92,7 @@ impl Port for BoardBus {
         if let Some(at) = self.found_at_once(r, piece.len) {
             return Ok(Place { at, len: piece.len });
         }
-        let Some(at) = self.translated(r) else {
-            return Err(r.refused(piece.len, true));
-        };
+        let at = self.translated(r).ok_or(r.refused(piece.len, true))?;
         let place = Place { at, len: piece.len };
         if !self.takes_writes(place) {
             return Err(r.refused(piece.len, false));
@@ -125,10 +101,7 @@ impl Port for BoardBus {
     }
 
     fn get(&mut self, place: Place) -> u32 {
-        match self.take(place) {
-            Some(value) => value,
-            None => 0,
-        }
+        self.take(place).unwrap_or(0)
     }
 
     fn put(&mut self, place: Place, value: u32) {

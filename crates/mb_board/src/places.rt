@@ -4,7 +4,7 @@ ghost use Rattle.std.specs.Prelude.{◌≡◌, ◌+◌, ◌<◌, ◌≤◌, ◌^
 ghost use Rattle.mb_port.specs.Pieces.{IsLength};
 ghost use Rattle.mb_walk.specs.Memory.{number_at as number_of, with_number};
 ghost use Rattle.def_machine.specs.World.{World};
-ghost use Rattle.def_machine.specs.Places.{in_ram, stored, taken, takes_writes, stored_line, taken_line, Stores};
+ghost use Rattle.def_machine.specs.Places.{in_ram, stored, taken, takes_writes, Stores};
 ghost use Rattle.mb_board.specs.Beside.{without_ram};
 
 use crate::bus::BoardBus;
@@ -78,41 +78,6 @@ impl BoardBus {
         ensures { result ≡ takes_writes self.now place }
     {
         self.in_ram(place) || self.devices.has(place)
-    }
-
-    /// The four longs of a line. `None` where the line is not in RAM.
-    pub fn take_line(&self, place: Place) -> Option<[u32; 4]>
-        requires { place.len ≡ 16 }
-        ensures { (result, self.now) ≡ taken_line place self.now }
-    {
-        if !self.in_ram(place) {
-            return None;
-        }
-        let at = place.at as usize;
-        Some([
-            self.number(at, 4),
-            self.number(at + 4, 4),
-            self.number(at + 8, 4),
-            self.number(at + 12, 4),
-        ])
-    }
-
-    /// Writes them. `None` where the line is not in RAM, and nothing has changed.
-    pub fn store_line(&mut self, place: Place, line: [u32; 4]) -> Option<()>
-        requires { place.len ≡ 16 }
-        ensures stored { Stores (stored_line place line self.old) self.old self.new result }
-        ensures size { length self.new.ram ≡ length self.old.ram }
-    {
-        if !self.in_ram(place) {
-            return None;
-        }
-        let at = place.at as usize;
-        let [first, second, third, fourth] = line;
-        self.set_number(at, 4, first);
-        self.set_number(at + 4, 4, second);
-        self.set_number(at + 8, 4, third);
-        self.set_number(at + 12, 4, fourth);
-        Some(())
     }
 }
 

@@ -3,7 +3,7 @@
 ghost use Rattle.std.specs.Prelude.{◌≡◌, ◌<◌, ◌^◌, length, IfSome, Some, true};
 ghost use Rattle.mb_port.specs.Pieces.{IsPiece};
 ghost use Rattle.mb_model.specs.Keeping.{after_ptest, rule_a};
-ghost use Rattle.mb_model.specs.Pages.{page_of as page_number};
+ghost use Rattle.mb_model.specs.Pages.{offset_of, page_of as page_number};
 ghost use Rattle.def_machine.specs.Access.{searched, translated};
 ghost use Rattle.def_machine.specs.Bus.{tested};
 ghost use Rattle.def_machine.specs.Places.{in_ram};
@@ -24,6 +24,7 @@ impl BoardBus {
         ensures means { (result, self.new) ≡ searched rule_a self.old
             (record { code = code; space = space; at = at; write = write }) }
         ensures size { length self.new.ram ≡ length self.old.ram }
+        ensures offset { IfSome result (λ to. offset_of to ≡ offset_of at) }
     {
         let r = Reference {
             code,
@@ -56,6 +57,7 @@ impl BoardBus {
         requires { IsAccess r }
         ensures means { (result, self.new) ≡ translated rule_a r self.old }
         ensures size { length self.new.ram ≡ length self.old.ram }
+        ensures offset { IfSome result (λ at. offset_of at ≡ offset_of r.at) }
     {
         match self.translator.settle(r) {
             Settled::To(at) => Some(at),

@@ -4,8 +4,8 @@ ghost use Rattle.std.specs.Prelude.{◌≡◌, ◌/◌, ◌<◌, IfOk, IfSome, t
 ghost use Rattle.mb_port.specs.Flushes.{NamesPage};
 ghost use Rattle.mb_port.specs.Registers.{with_mmu_register};
 ghost use Rattle.mb_model.specs.Keeping.{NamesPages, entry_for, filled, flushed, rule_a};
-ghost use Rattle.mb_model.specs.Pages.{page_of as page_number};
-ghost use Rattle.def_machine.specs.Access.{by_entry as by_kept_entry};
+ghost use Rattle.mb_model.specs.Pages.{offset_of, page_of as page_number};
+ghost use Rattle.def_machine.specs.Access.{by_entry as by_kept_entry, LeadsTo};
 ghost use Rattle.def_machine.specs.declared.reference.Reference.{Reference};
 ghost use Rattle.def_machine.specs.declared.reference.Settled.TheVariants.{To};
 ghost use Rattle.mb_mmu.specs.MicroTlb.{nothing};
@@ -132,7 +132,8 @@ impl Translator {
     /// Point 3: what the kept entry of its page says.
     #[inline(always)]
     fn by_kept(&self, r: Reference) -> Settled
-        ensures { result ≡ by_kept_entry r (entry_for rule_a r.code r.space (page_number r.at) self.now.kept) }
+        ensures settled { result ≡ by_kept_entry r (entry_for rule_a r.code r.space (page_number r.at) self.now.kept) }
+        ensures offset { LeadsTo result (λ at. offset_of at ≡ offset_of r.at) }
     {
         by_entry(r, self.kept.find(r.code, r.space, page_of(r.at)))
     }
@@ -141,7 +142,9 @@ impl Translator {
     /// need not stand in memory where none may.
     #[inline(never)]
     fn by_registers(&self, code: bool, space: Space, at: u32, write: bool) -> Settled
-        ensures { result ≡ settled_by self.now (record { code = code; space = space; at = at; write = write }) }
+        ensures settled { result
+            ≡ settled_by self.now (record { code = code; space = space; at = at; write = write }) }
+        ensures offset { LeadsTo result (λ to. offset_of to ≡ offset_of at) }
     {
         let r = Reference {
             code,
@@ -160,7 +163,8 @@ impl Translator {
     #[inline(always)]
     #[tactic(auto, using(crate::proofs::Modal::modes))]
     fn settled(&self, r: Reference) -> Settled
-        ensures { result ≡ settled_by self.now r }
+        ensures settled { result ≡ settled_by self.now r }
+        ensures offset { LeadsTo result (λ at. offset_of at ≡ offset_of r.at) }
     {
         match self.mode {
             Mode::Direct => Settled::To(r.at),
@@ -199,6 +203,7 @@ impl Translator {
     pub fn settle(&mut self, r: Reference) -> Settled
         requires { IsAccess r }
         ensures settled { result ≡ settled_by self.old r }
+        ensures offset { LeadsTo result (λ at. offset_of at ≡ offset_of r.at) }
         ensures same { self.new ≡ self.old }
     {
         let settled = self.settled(r);

@@ -1,9 +1,9 @@
 //! Physical places of a guest: its RAM, and the registers of its devices.
 
-ghost use Rattle.std.specs.Prelude.{◌≡◌, ◌+◌, ◌%◌, ◌<◌, ◌≤◌, ◌^◌, length, IfSome};
+ghost use Rattle.std.specs.Prelude.{◌≡◌, ◌+◌, ◌<◌, ◌≤◌, ◌^◌, length, IfSome};
 ghost use Rattle.mb_port.specs.Pieces.{IsAligned};
 ghost use Rattle.mb_walk.specs.Memory.{number_at, with_number};
-ghost use Rattle.def_machine.specs.Places.{in_ram, stored, taken, takes_writes, stored_line, taken_line, Stores};
+ghost use Rattle.def_machine.specs.Places.{in_ram, stored, taken, takes_writes, Stores};
 
 use crate::port::GuestPort;
 use mb_port::Place;
@@ -90,54 +90,6 @@ impl<R: Ram> GuestPort<'_, R> {
         ensures { result ≡ takes_writes (world_of self.now) place }
     {
         self.in_ram(place) || self.devices.has(place)
-    }
-
-    /// The four longs of a line. `None` where the line is not in RAM.
-    pub(crate) fn take_line(&self, place: Place) -> Option<[u32; 4]>
-        requires len { place.len ≡ 16 }
-        requires aligned { place.at % 16 ≡ 0 }
-        ensures { (result, world_of self.now) ≡ taken_line place (world_of self.now) }
-    {
-        if !self.in_ram(place) {
-            return None;
-        }
-        let at = place.at;
-        Some([
-            self.number(Place { at, len: 4 }),
-            self.number(Place { at: at + 4, len: 4 }),
-            self.number(Place { at: at + 8, len: 4 }),
-            self.number(Place {
-                at: at + 12,
-                len: 4,
-            }),
-        ])
-    }
-
-    /// Writes them. `None` where the line is not in RAM, and nothing has changed.
-    pub(crate) fn store_line(&mut self, place: Place, line: [u32; 4]) -> Option<()>
-        requires len { place.len ≡ 16 }
-        requires aligned { place.at % 16 ≡ 0 }
-        ensures stored { Stores (stored_line place line (world_of self.old)) (world_of self.old)
-            (world_of self.new) result }
-        ensures shadow { tables_of self.new ≡ tables_of self.old }
-        ensures beyond { beyond_of self.new ≡ beyond_of self.old }
-    {
-        if !self.in_ram(place) {
-            return None;
-        }
-        let at = place.at;
-        let [first, second, third, fourth] = line;
-        self.set_number(Place { at, len: 4 }, first);
-        self.set_number(Place { at: at + 4, len: 4 }, second);
-        self.set_number(Place { at: at + 8, len: 4 }, third);
-        self.set_number(
-            Place {
-                at: at + 12,
-                len: 4,
-            },
-            fourth,
-        );
-        Some(())
     }
 }
 
