@@ -16,4 +16,5 @@ pub mod Runs
 pub mod Takings
 pub mod Stops
 pub mod Turning
+pub mod Watching
 pub mod Advances

@@ -8,6 +8,9 @@ use Rattle.mb_devices.specs.Devices.{DeviceState, restarted, ticked, ticks, pass
 use Rattle.mb_devices.proofs.Passing.{ticks_pass}
 use Rattle.def_processor.specs.SystemEnds.{with_registers}
 use Rattle.def_machine.specs.Machine.{going}
+use Rattle.def_machine.specs.World.{World}
+use Rattle.vm_shadow.specs.Mapped.{root_of}
+use Rattle.mb_model.specs.Status.{space_of}
 use Rattle.mb_board.specs.Fits.{FitsAlong}
 use Rattle.mb_board.specs.State.{BoardState}
 use Rattle.def_runs.specs.declared.RunEnd.TheVariants.{Counted, Exit, Gone}
@@ -28,7 +31,7 @@ use Rattle.law_turns.proofs.Quiet.{only_ticks, quiet_steps_are_tried, retired_st
 use Rattle.law_turns.proofs.Turn.{boards_are_ready, flushed_is_set}
 use Rattle.law_turns.proofs.Taking.{batches_take, exits_take, is_counted, stands_of}
 use Rattle.def_guests.specs.Classes.{assisted}
-use Rattle.vm_guest.specs.Native.{native_cpu, reset_for, run_on, start_on}
+use Rattle.vm_guest.specs.Native.{native_cpu, native_world, run_on, start_on}
 use Rattle.vm_guest.specs.Turns.{begun_seat, scene, level_on}
 use Rattle.vm_guest.proofs.Along.{wanted_along}
 use Rattle.vm_guest.proofs.Assisted.{tried_begun}
@@ -38,8 +41,11 @@ restarted_on : (d : DeviceState) → (restarted d).off ≡ false
 restarted_on d = refl
 
 -- so a board that is reset stands for it
-pub reset_is_set : (g : Seat) (ram : List ℕ) (devices : DeviceState) → IsSetFor (site_of g) (reset_for g ram devices).world
-reset_is_set g ram devices = flushed_is_set (site_of g) ram (restarted devices) (restarted_on devices)
+pub reset_is_set : (g : Seat) (root : ℕ) (ram : List ℕ) (devices : DeviceState) (w : World) → root ≡ root_of g.slots.area (space_of g.cpu)
+    → w ≡ native_world root devices ram → IsSetFor (site_of g) w
+reset_is_set g root ram devices w tables is =
+    subst (IsSetFor (site_of g)) (sym (is ∙ ap (λ (n : ℕ). native_world n devices ram) tables))
+    (flushed_is_set (site_of g) ram (restarted devices) (restarted_on devices))
 
 -- the monitor's processor
 is_native : (g : Seat) → MONITOR_BYTES ≤ g.base → IsNativeCpu (site_of g) native_cpu
@@ -58,10 +64,6 @@ pub record MayRunOn (g : Seat) (board : BoardState) (native : NativeState) (n : 
   pub arrives : NothingArrives g.script (g.steps + 1) n
   pub due : IsNotDue n (begun_seat g).devices
   pub fit : FitsAlong (suc n) (start_on g board native)
-
--- of a board that is made ready for it
-abbrev pub MayRun : Seat → List ℕ → (devices : DeviceState) → NativeState → ℕ → Type 0
-MayRun g ram devices native n = MayRunOn g (reset_for g ram devices) native n
 
 -- one tick more, at either end
 ticked_behind : (n : ℕ) (d : DeviceState) → ticked (ticks n d) ≡ ticks (suc n) d
@@ -139,6 +141,15 @@ module _ (g : Seat) (board : BoardState) (native : NativeState) (n : ℕ) (may :
       subst (λ (s : Seat). Takes (suc n) (scene g board.world.ram native) (scene s u.machine.world.ram u.native)) (sym same)
       (subst (λ (x : Ran). Takes (suc n) (scene g board.world.ram native)
       (scene (settled (retired_seat g (suc n) (suc n) (plain_of x.machine.cpu.regs) d)) x.machine.world.ram x.native)) (sym is) takes)
+
+  -- and the board still stands for it
+  pub counted_set : (u : Ran) → u ≡ run_on g board native (suc n) → u.end ≡ Counted → IsSetFor (site_of g) u.machine.world
+  counted_set u is counted =
+      let r = start_on g board native in
+      let (all, done) =
+      is_counted (site_of g) (suc n) r (user_run (suc n) r) (turned_on g board.world.ram [] 0) g (sym (ap (λ (x : Ran). x.end) is) ∙ counted) batch in
+      subst (λ (x : Ran). IsSetFor (site_of g) x.machine.world) (sym is)
+      (record { mmu = done.furnished.mmu; on = done.boarded.on; kept = done.boarded.related.kept })
 
   -- its first step is retired, and has not begun again
   pub counted_first : (u : Ran) → u ≡ run_on g board native (suc n) → u.end ≡ Counted

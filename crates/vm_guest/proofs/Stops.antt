@@ -14,7 +14,7 @@ use Rattle.mb_walk.specs.Memory.{AreBytes}
 use Rattle.mb_devices.specs.Devices.{DeviceState, level_of, ticked, IsNotDue, passed}
 use Rattle.def_processor.specs.Raise.{Stepped}
 use Rattle.def_processor.specs.Step.{interrupt_mask, rank, step_of}
-use Rattle.def_machine.specs.Machine.{Entries, Machine, arrived, begun, takes_steps, asked, asked_of}
+use Rattle.def_machine.specs.Machine.{Entries, Machine, arrived, takes_steps, asked, asked_of}
 use Rattle.def_machine.specs.World.{World}
 use Rattle.def_machine.proofs.Asked.{asked_masked}
 use Rattle.mb_board.specs.Beside.{but_ram}
@@ -25,6 +25,8 @@ use Rattle.def_runs.specs.declared.RunEnd.TheVariants.{Counted, Exit}
 use Rattle.def_runs.specs.Marks.{trail}
 use Rattle.def_runs.specs.Native.{NativeState, Ran}
 use Rattle.vm_shadow.specs.Shadows.{Shadowed}
+use Rattle.vm_shadow.specs.Mapped.{shadowed}
+use Rattle.mb_port.specs.declared.types.Space.{Space}
 use Rattle.def_guests.specs.declared.class.Class.{Class}
 use Rattle.def_guests.specs.declared.class.Class.TheVariants as class
 use Rattle.def_guests.specs.Guests.{Guest}
@@ -36,7 +38,7 @@ use Rattle.def_guests.specs.Exits.{is_refusal, class_of_vector, frame_access, ha
 use Rattle.def_guests.specs.Turns.{Guested, Tally, Turned, bus_side, guest_begun, guest_later, step_class_at_first, refills_of_step}
 use Rattle.def_guests.specs.Turns.{tallied, with_refills, exceptions_of}
 use Rattle.def_guests.specs.Turns.{marks_of, turn_of}
-use Rattle.def_guests.specs.Seats.{Seat, end_of, machine_on, board_entry, shadow_on, guested_on, turned_on, IsSame, IsSeated, OnlyWithin, Takes}
+use Rattle.def_guests.specs.Seats.{Seat, end_of, machine_on, board_entry, on_board, shadow_on, guested_on, turned_on, IsSame, IsSeated, OnlyWithin, Takes}
 use Rattle.def_guests.proofs.TurnLaws.{nothing_turned}
 use Rattle.law_held.specs.Truth.{Fine}
 use Rattle.law_mirror.specs.Related.{mapping}
@@ -44,6 +46,7 @@ use Rattle.law_turns.specs.Lawful.{LeavesLawful}
 use Rattle.law_turns.specs.Reads.{read_by_frame}
 use Rattle.law_turns.specs.Batch.{stepped_by}
 use Rattle.law_turns.specs.Turn.{IsSetFor}
+use Rattle.law_turns.specs.Idle.{idle_seat}
 use Rattle.law_turns.specs.Taking.{IsLeft, retired_seat, settled, site_of}
 use Rattle.law_turns.specs.Again.{Midway, unbegun, refilled_seat}
 use Rattle.law_turns.proofs.Refill.{again_comes_to_the_same}
@@ -53,7 +56,7 @@ use Rattle.vm_guest.specs.Memory.{OnlyBetween}
 use Rattle.def_guests.specs.Classes.{assisted}
 use Rattle.vm_guest.specs.Native.{finished_by_frame, run_on, start_on, HasFrame, IsFrameOf}
 use Rattle.vm_guest.specs.Turns.{begun_seat, ended_at, scene, level_on}
-use Rattle.vm_guest.specs.Stops.{with_bus_of, uncounted, BeginsAgain, IsReady, IsStopped, IsUnderway}
+use Rattle.vm_guest.specs.Stops.{with_bus_of, uncounted, BeginsAgain, IsReady, IsStopped, IsUnderway, StaysReady}
 use Rattle.vm_guest.proofs.Assisted.{Attempts, attempts_none}
 use Rattle.vm_guest.proofs.Runs.{MayRunOn, counted_first, counted_takes, is_left}
 use Rattle.vm_guest.proofs.Seated.{begun_seated, only_within}
@@ -460,6 +463,30 @@ refilled_ready g s y ram native k n b counts v f later stopped reads fine some s
           (more_stays_set (site_of s) (site_of seat) b.world next (seated.area ∙ sym before.area) refl more stopped.ready.set);
       goes = ap (λ (o : BoardState). takes_steps o.state) rest ∙ stopped.ready.goes;
     }
+
+-- and where its shadow and its space have stayed
+pub stays_ready : (s t : Seat) (b later : BoardState) → IsReady s b → IsSeated s b.world.ram → IsSeated t later.world.ram → IsSame s t
+    → StaysReady s t b.world.ram later.world.ram → but_ram later ≡ but_ram b → IsReady t later
+stays_ready s t b later ready before after same stays rest =
+    let next = later.world.ram in
+    let old = shadowed s.slots b.world.ram in
+    let tables : shadowed t.slots next ≡ old =
+    after.tables ∙ ap (λ (base : ℕ). on_board base (shadow_on t next)) same.base ∙ ap (on_board s.base) stays.shadow ∙ sym before.tables in
+    let more : (page : ℕ) (entry : ℕ × Bool) → mapping (site_of s) b.world.ram page ≡ Some entry → mapping (site_of t) next page ≡ Some entry =
+    λ page entry e. ap (λ (h : Shadowed). h.entries (space_of t.cpu) page) tables ∙ ap (λ (space : Space). old.entries space page) stays.space ∙ e in
+    let world : later.world ≡ record b.world { ram = next } = ap (λ (o : BoardState). record o.world { ram = next }) rest in
+    record {
+      set = subst (λ (w : World). IsSetFor (site_of t) w) (sym world)
+          (more_stays_set (site_of s) (site_of t) b.world next same.area stays.space more ready.set);
+      goes = ap (λ (o : BoardState). takes_steps o.state) rest ∙ ready.goes;
+    }
+
+-- The beginning of a step is nothing to it, nor are idle steps.
+pub begun_ready : (g b : Seat) (board : BoardState) → b ≡ begun_seat g → IsReady g board → IsReady b board
+begun_ready g b board is ready = subst (λ (s : Seat). IsReady s board) (sym is) (record { set = ready.set; goes = ready.goes })
+
+pub idle_ready : (b h : Seat) (board : BoardState) (more n : ℕ) (d : DeviceState) → h ≡ idle_seat b more n d → IsReady b board → IsReady h board
+idle_ready b h board more n d is ready = subst (λ (s : Seat). IsReady s board) (sym is) (record { set = ready.set; goes = ready.goes })
 
 -- the turn in which it begins again then
 abbrev pub again_of : (g s x : Seat) (ram : List ℕ) (native : NativeState) (k n : ℕ) (b : BoardState) (counts : NativeState) (v : ℕ) (f : Frame)

@@ -2,16 +2,14 @@
 use Rattle.std.specs.Prelude.{◌≡◌, ℕ, ◌+◌, ◌-◌, ◌*◌, ◌≤◌, false, List, length, replicate, slice_range, Some}
 use Rattle.mb_port.specs.Routine.{run}
 use Rattle.mb_instr.specs.declared.status.TheConstants.{I, LEVELS}
-use Rattle.mb_instr.specs.declared.registers.Plain.{Plain}
 use Rattle.mb_frames.specs.declared.frame.Frame.{Frame}
 use Rattle.mb_frames.specs.Reading.{frame_in}
 use Rattle.mb_model.specs.declared.processor.Cpu.{Cpu}
 use Rattle.mb_model.specs.declared.outcome.RunState.TheVariants.{Running}
 use Rattle.mb_model.specs.Keeping.{rule_a, nothing_kept}
 use Rattle.mb_devices.specs.Devices.{DeviceState, level_of, restarted}
-use Rattle.def_processor.specs.SystemEnds.{with_registers}
-use Rattle.def_machine.specs.Machine.{Machine}
-use Rattle.mb_board.specs.State.{BoardState, no_registers}
+use Rattle.def_machine.specs.World.{World}
+use Rattle.mb_board.specs.State.{BoardState}
 use Rattle.def_runs.specs.Native.{NativeState, Ran, about_to_run, user_run}
 use Rattle.law_mirror.specs.Ready.{native_mmu}
 use Rattle.def_guests.specs.Bus.{guest_bus}
@@ -20,8 +18,7 @@ use Rattle.def_guests.specs.Turns.{Guested, bus_side}
 use Rattle.def_guests.specs.Seats.{Seat, guested_on}
 use Rattle.def_guests.specs.declared.limits.TheConstants.{MONITOR_BYTES}
 use Rattle.law_turns.specs.Lawful.{LeavesLawful}
-use Rattle.law_turns.specs.Turn.{flushed, ready_for}
-use Rattle.law_turns.specs.Taking.{site_of}
+use Rattle.law_turns.specs.Turn.{ready_for}
 use Rattle.vm_guest.specs.Turns.{ended_at}
 use Rattle.mb_frames.specs.declared.places.TheConstants.{LONGEST}
 
@@ -45,15 +42,10 @@ native_cpu = record {
   stopped = false;
 }
 
--- The board with these registers, and with the tables of this root, as it is after a reset else, with such devices
--- before it.
-abbrev pub ready : (root : ℕ) → DeviceState → List ℕ → Plain → Machine
-ready root devices ram plain = record {
-  cpu = with_registers plain native_cpu;
-  world = record { ram = ram; mmu = native_mmu root; devices = restarted devices; kept = nothing_kept rule_a };
-  steps = 0;
-  state = Running;
-}
+-- The board's world with the tables of this root, as it is after a reset else, with such devices before it.
+abbrev pub native_world : (root : ℕ) → DeviceState → List ℕ → World
+native_world root devices ram =
+    record { ram = ram; mmu = native_mmu root; devices = restarted devices; kept = nothing_kept rule_a }
 
 -- this board with a guest's registers, and with what was counted before
 abbrev pub start_on : Seat → BoardState → NativeState → Ran
@@ -63,23 +55,6 @@ start_on g b native =
 -- its run of so many steps
 abbrev pub run_on : Seat → BoardState → NativeState → ℕ → Ran
 run_on g b native k = user_run k (start_on g b native)
-
--- the board for a guest as after a reset, with such devices before it
-abbrev pub reset_for : Seat → List ℕ → DeviceState → BoardState
-reset_for g ram devices = record {
-  cpu = native_cpu;
-  world = flushed (site_of g) ram (restarted devices);
-  steps = 0;
-  state = Running;
-  before = no_registers;
-}
-
--- made ready so, and its run
-abbrev pub guest_start : Seat → List ℕ → DeviceState → NativeState → Ran
-guest_start g ram devices native = start_on g (reset_for g ram devices) native
-
-abbrev pub guest_run : Seat → List ℕ → DeviceState → NativeState → ℕ → Ran
-guest_run g ram devices native k = run_on g (reset_for g ram devices) native k
 
 -- ---- what the board left
 

@@ -16,7 +16,7 @@ use Rattle.def_guests.specs.declared.limits.TheConstants.{MOST_REFILLS}
 use Rattle.def_guests.specs.Classes.{class_at_first}
 use Rattle.def_guests.specs.Exits.{class_of_vector, frame_access, handed_by, rest_by_frame}
 use Rattle.def_guests.specs.Turns.{tallied, bus_side}
-use Rattle.def_guests.specs.Seats.{Seat, end_of, guested_on, IsSame, IsSeated, Takes}
+use Rattle.def_guests.specs.Seats.{Seat, end_of, guested_on, shadow_on, IsSame, IsSeated, Takes}
 use Rattle.law_held.specs.Truth.{Fine}
 use Rattle.law_turns.specs.Reads.{read_by_frame}
 use Rattle.law_turns.specs.Turn.{IsSetFor}
@@ -38,6 +38,11 @@ uncounted s = record s { steps = s.steps - 1 }
 pub record IsReady (s : Seat) (b : BoardState) : Type 0 where
   pub set : IsSetFor (site_of s) b.world
   pub goes : takes_steps b.state ≡ true
+
+-- The shadow and the space of a guest are as they were: a board that is ready for it stays so.
+pub record StaysReady (s t : Seat) (ram next : List ℕ) : Type 0 where
+  pub shadow : shadow_on t next ≡ shadow_on s ram
+  pub space : space_of t.cpu ≡ space_of s.cpu
 
 -- A guest whose step has begun and may be the board's.
 pub record IsUnderway (s : Seat) : Type 0 where

@@ -17,9 +17,9 @@ ghost use Rattle.law_turns.specs.Lawful.{LeavesLawful};
 ghost use Rattle.law_turns.specs.Taking.{retired_seat};
 ghost use Rattle.vm_guest.specs.Memory.{OnlyBetween};
 ghost use Rattle.vm_guest.specs.Counting.{NoneDue};
-ghost use Rattle.vm_guest.specs.Native.{guest_run, guest_start, finished_by_frame, run_on, start_on};
+ghost use Rattle.vm_guest.specs.Native.{finished_by_frame, run_on, start_on};
 ghost use Rattle.vm_guest.specs.Native.{HasFrame, IsFrameOf};
-ghost use Rattle.vm_guest.specs.Stops.{BeginsAgain, IsReady, IsStopped, Stopped};
+ghost use Rattle.vm_guest.specs.Stops.{BeginsAgain, IsReady, IsStopped, StaysReady, Stopped};
 ghost use Rattle.vm_guest.specs.Turns.{scene};
 
 use crate::classes::{assisted, class_of_vector};
@@ -84,42 +84,44 @@ fn seven(regs: &Regs)
     let _seven = regs.a;
 }
 
+/// What came of some steps.
+#[derive(Clone, Copy)]
+pub(crate) struct Advance {
+    /// How many they were.
+    pub(crate) steps: u32,
+    /// Whether the board stands ready for the guest.
+    pub(crate) ready: bool,
+}
+
 impl Guest {
-    /// The board carries out so many steps of the guest, of which the first has begun, or fewer.
-    fn run_board(&self, board: &mut Board, steps: u32, native: &mut Native) -> RunEnd
+    /// The board stands ready for the guest, where it did not already.
+    fn ready_board(&self, board: &mut Board, is_ready: bool)
         requires seated { IsSeated self.now board.old.world.ram }
-        requires native { (native.old.retired < 2 ^ 63) × (native.old.exceptions < 2 ^ 63) }
-        ensures means { ran_to result board.new native.new
-            ≡ guest_run self.now board.old.world.ram board.old.world.devices native.old steps }
-        ensures fit { FitsAlong steps
-            (guest_start self.now board.old.world.ram board.old.world.devices native.old) }
-        ensures seven { length self.now.cpu.regs.a ≡ 7 }
-        ensures wide { length board.new.cpu.regs.a ≡ 7 }
-        ensures bytes { AreBytes board.old.world.ram × (length board.old.world.ram ≤ 2 ^ 32) }
+        requires ready { is_ready ≡ true → IsReady self.now board.old }
+        ensures ready { IsReady self.now board.new }
+        ensures ram { board.new.world.ram ≡ board.old.world.ram }
     {
-        let _ = board.size();
-        let root = self.shadow.root(self.cpu.space());
-        make_ready(board, root, &plain(&self.cpu.regs));
-        let end = board.run(steps, native);
-        seven(&board.cpu().regs);
-        end
+        if !is_ready {
+            make_ready(board, self.shadow.root(self.cpu.space()));
+        }
     }
 
-    /// The board, as it was when it left the guest, carries out one step that has begun, or leaves it. What it keeps of
-    /// translations holds, so it keeps it.
-    fn resume_board(&self, board: &mut Board, native: &mut Native) -> RunEnd
+    /// The board, which stands ready, carries out so many steps of the guest, of which the first has begun, or fewer.
+    /// What it keeps of translations holds, so it keeps it.
+    fn run_board(&self, board: &mut Board, steps: u32, native: &mut Native) -> RunEnd
         requires seated { IsSeated self.now board.old.world.ram }
         requires ready { IsReady self.now board.old }
         requires native { (native.old.retired < 2 ^ 63) × (native.old.exceptions < 2 ^ 63) }
-        ensures means { ran_to result board.new native.new ≡ run_on self.now board.old native.old 1 }
-        ensures fit { FitsAlong 1 (start_on self.now board.old native.old) }
+        ensures means { ran_to result board.new native.new ≡ run_on self.now board.old native.old steps }
+        ensures fit { FitsAlong steps (start_on self.now board.old native.old) }
         ensures seven { length self.now.cpu.regs.a ≡ 7 }
         ensures wide { length board.new.cpu.regs.a ≡ 7 }
+        ensures goes { result ≡ RunEnd.Counted → takes_steps board.new.state ≡ true }
         ensures bytes { AreBytes board.old.world.ram × (length board.old.world.ram ≤ 2 ^ 32) }
     {
         let _ = board.size();
         set_registers(board, &plain(&self.cpu.regs));
-        let end = board.run(1, native);
+        let end = board.run(steps, native);
         seven(&board.cpu().regs);
         end
     }
@@ -139,13 +141,15 @@ impl Guest {
         self.counts.retire(retired);
     }
 
-    /// What is left of a step that the board left by this vector is carried out over the guest's bus.
-    fn leave(&mut self, board: &mut Board, vector: u8, frame: &Frame)
+    /// What is left of a step that the board left by this vector is carried out over the guest's bus. Answers whether
+    /// the board may go on with what it keeps.
+    fn leave(&mut self, board: &mut Board, vector: u8, frame: &Frame) -> bool
         requires counted { steps_in self.old.tally < self.old.steps }
         requires lawful { LeavesLawful (frame_access frame.now) }
         requires seated { IsSeated self.old board.old.world.ram }
         ensures means { guested_on self.new board.new.world.ram
             ≡ finished_by_frame vector frame.now board.old self.old }
+        ensures stays { result ≡ true → StaysReady self.old self.new board.old.world.ram board.new.world.ram }
         ensures tally { self.new.tally ≡ tallied (class_of vector) self.old.tally }
         ensures steps { self.new.steps ≡ self.old.steps }
         ensures same { IsSame self.old self.new }
@@ -155,7 +159,7 @@ impl Guest {
     {
         let rest = Rest::left(vector, frame, &board.cpu().regs);
         let level = self.devices.level();
-        self.assist(board, &rest, level, class_of_vector(vector));
+        self.assist(board, &rest, level, class_of_vector(vector))
     }
 
     /// The step that was carried out last had begun again.
@@ -184,7 +188,7 @@ impl Guest {
             × (native.new.exceptions ≤ native.old.exceptions + 1) }
         ensures retired { IfSome result (λ vector. native.new.retired ≡ native.old.retired) }
     {
-        match self.resume_board(board, native) {
+        match self.run_board(board, 1, native) {
             RunEnd::Counted => {
                 self.go_on(&plain(&board.cpu().regs), 0, 1);
                 self.count_refilled();
@@ -197,8 +201,8 @@ impl Guest {
     }
 
     /// Ends a step that the board left by this vector. As long as it was denied a read that is refilled, it begins
-    /// again, at most so often; then what is left of it is carried out.
-    fn end_step(&mut self, board: &mut Board, first: u8, native: &mut Native)
+    /// again, at most so often; then what is left of it is carried out. Answers whether the board stands ready then.
+    fn end_step(&mut self, board: &mut Board, first: u8, native: &mut Native) -> bool
         requires stopped { Stopped self.old board.old native.old first }
         requires counted { steps_in self.old.tally < self.old.steps }
         requires refilled { self.old.tally.refilled ≤ self.old.tally.retired }
@@ -206,6 +210,7 @@ impl Guest {
         requires native { (native.old.retired < 2 ^ 63) × (native.old.exceptions + 31 ≤ 2 ^ 63) }
         ensures takes { (w : Stopped self.old board.old native.old first)
             → Takes (w.taken + 1) (scene w.guest w.ram w.native) (scene self.new board.new.world.ram native.new) }
+        ensures ready { result ≡ true → IsReady self.new board.new }
         ensures steps { self.new.steps ≡ self.old.steps }
         ensures native { (native.new.retired ≤ native.old.retired + 1)
             × (native.new.exceptions ≤ native.old.exceptions + 31) }
@@ -215,13 +220,13 @@ impl Guest {
         let mut refills = 0;
         while refills < MOST_REFILLS && self.refill(board, &frame) {
             let Some(next) = self.run_again(board, native) else {
-                return;
+                return false;
             };
             vector = next;
             frame = frame_on(board);
             refills += 1;
         }
-        self.leave(board, vector, &frame);
+        self.leave(board, vector, &frame)
     }
 
     /// STOP holds the processor in the step that has begun, and in so many behind it: the timer counts those, and
@@ -240,19 +245,27 @@ impl Guest {
     }
 
     /// Takes the next step, and as many behind it as the board may carry out together with it, or as are idle with it,
-    /// at most `limit` in all. Gives how many steps were taken.
-    pub(crate) fn advance(&mut self, board: &mut Board, limit: u32, native: &mut Native) -> u32
+    /// at most `limit` in all. `ready` says that the board stands ready for the guest.
+    pub(crate) fn advance(
+        &mut self,
+        board: &mut Board,
+        limit: u32,
+        native: &mut Native,
+        ready: bool,
+    ) -> Advance
         requires limit { 0 < limit }
         requires room { self.old.steps + limit < 2 ^ 32 }
         requires seated { IsSeated self.old board.old.world.ram }
         requires takes { takes_steps self.old.state ≡ true }
         requires native { (native.old.retired + limit < 2 ^ 63) × (native.old.exceptions + 32 * limit < 2 ^ 63) }
-        ensures some { (0 < result) × (result ≤ limit) }
-        ensures takes { Takes result (scene self.old board.old.world.ram native.old)
+        requires ready { ready ≡ true → IsReady self.old board.old }
+        ensures some { (0 < result.steps) × (result.steps ≤ limit) }
+        ensures takes { Takes result.steps (scene self.old board.old.world.ram native.old)
             (scene self.new board.new.world.ram native.new) }
-        ensures steps { self.new.steps ≡ self.old.steps + result }
-        ensures native { (native.new.retired ≤ native.old.retired + result)
-            × (native.new.exceptions ≤ native.old.exceptions + 32 * result) }
+        ensures ready { result.ready ≡ true → IsReady self.new board.new }
+        ensures steps { self.new.steps ≡ self.old.steps + result.steps }
+        ensures native { (native.new.retired ≤ native.old.retired + result.steps)
+            × (native.new.exceptions ≤ native.old.exceptions + 32 * result.steps) }
     {
         let level = self.begin();
         let more = more_steps(
@@ -265,23 +278,36 @@ impl Guest {
         if let Some(class) = assisted(level, &self.cpu) {
             if let Class::Idle = class {
                 self.idle_on(more);
-                return more + 1;
+                return Advance {
+                    steps: more + 1,
+                    ready,
+                };
             }
-            self.assist(board, &Rest::Whole, level, class);
-            return 1;
+            let stays = self.assist(board, &Rest::Whole, level, class);
+            return Advance {
+                steps: 1,
+                ready: ready & stays,
+            };
         }
+        self.ready_board(board, ready);
         let before = native.retired();
         match self.run_board(board, more + 1, native) {
             RunEnd::Counted => {
                 self.go_on(&plain(&board.cpu().regs), more, more + 1);
                 self.settle();
-                more + 1
+                Advance {
+                    steps: more + 1,
+                    ready: true,
+                }
             }
             RunEnd::Exit(vector) => {
                 let retired = (native.retired() - before) as u32;
                 self.go_on(board.before(), retired, retired);
-                self.end_step(board, vector, native);
-                retired + 1
+                let ready = self.end_step(board, vector, native);
+                Advance {
+                    steps: retired + 1,
+                    ready,
+                }
             }
             RunEnd::Gone => unreachable!(),
         }

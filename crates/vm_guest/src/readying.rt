@@ -4,8 +4,7 @@ ghost use Rattle.std.specs.Prelude.{◌≡◌, ◌≤◌, ◌%◌, true, length}
 ghost use Rattle.mb_model.specs.declared.outcome.RunState.TheVariants.{Running};
 ghost use Rattle.def_processor.specs.SystemEnds.{with_registers};
 ghost use Rattle.def_machine.specs.Machine.{takes_steps};
-ghost use Rattle.mb_board.specs.State.{board_at_reset};
-ghost use Rattle.vm_guest.specs.Native.{native_cpu, ready};
+ghost use Rattle.vm_guest.specs.Native.{native_cpu, native_world};
 
 use def_guests::MONITOR_BYTES;
 use mb_board::Board;
@@ -53,18 +52,16 @@ pub(crate) fn set_registers(board: &mut Board, plain: &Plain)
     board.set_cpu(&native_cpu(plain));
 }
 
-/// Makes the board ready for the instruction at PC of these registers, in the space whose tables have this root, a
-/// multiple of 512. All but its memory becomes as after a reset first, so nothing is kept. The supervisor's operands
-/// stand at their own addresses.
-pub(crate) fn make_ready(board: &mut Board, root: u32, plain: &Plain)
+/// Makes the board ready for the space whose tables have this root, a multiple of 512. All but its memory becomes as
+/// after a reset first, so nothing is kept. The supervisor's operands stand at their own addresses.
+pub(crate) fn make_ready(board: &mut Board, root: u32)
     requires room { 8 ≤ length board.old.world.ram }
     requires root { root % 512 ≡ 0 }
-    ensures { board.new
-        ≡ board_at_reset (ready root board.old.world.devices board.old.world.ram plain.now) }
+    ensures world { board.new.world ≡ native_world root board.old.world.devices board.old.world.ram }
+    ensures state { board.new.state ≡ Running }
 {
     board.reset();
     board.set_mmu(MmuReg::Tc, E);
     board.set_mmu(MmuReg::Dtt0, ALL_OF_SUPERVISOR);
     board.set_mmu(MmuReg::Urp, root);
-    board.set_cpu(&native_cpu(plain));
 }

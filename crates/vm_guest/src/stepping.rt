@@ -1,14 +1,15 @@
 //! One step of a guest, carried out by the monitor.
 
-ghost use Rattle.std.specs.Prelude.{◌≡◌, ◌+◌, ◌^◌, ◌<◌, ◌≤◌};
+ghost use Rattle.std.specs.Prelude.{◌≡◌, ◌+◌, ◌^◌, ◌<◌, ◌≤◌, true};
 ghost use Rattle.mb_port.specs.Routine.{run};
 ghost use Rattle.def_processor.specs.Raise.{by_its_end};
 ghost use Rattle.mb_board.specs.Beside.{but_ram};
 ghost use Rattle.def_guests.specs.Bus.{guest_bus};
 ghost use Rattle.def_guests.specs.Turns.{tallied, steps_in, bus_side};
-ghost use Rattle.def_guests.specs.Seats.{end_of, guested_on, IsSame, IsSeated};
+ghost use Rattle.def_guests.specs.Seats.{end_of, guested_on, shadow_on, IsSame, IsSeated};
 ghost use Rattle.vm_guest.specs.Memory.{OnlyBetween};
 ghost use Rattle.vm_guest.specs.Rests.{rest_in, IsLawfulRest};
+ghost use Rattle.vm_guest.specs.Stops.{StaysReady};
 ghost use Rattle.law_turns.specs.Taking.{settled};
 ghost use Rattle.vm_guest.specs.Turns.{begun_seat, ended_at, level_on, processed};
 
@@ -20,6 +21,14 @@ use mb_board::{Board, receive, state_after};
 use mb_model::{NON_MASKABLE, RunState};
 use mb_walk::Ram;
 use vm_port::GuestPort;
+
+/// What came of the processor's part of a step.
+#[derive(Clone, Copy)]
+struct Processed {
+    end: StepEnd,
+    /// Whether the guest's shadow is as it was.
+    stays: bool,
+}
 
 impl Guest {
     /// A step begins: what is due at it arrives, and the timer ticks. Gives the interrupt level that it is asked for.
@@ -51,14 +60,16 @@ impl Guest {
     }
 
     /// What is left of the processor's part of a step, over the guest's bus.
-    fn process<R: Ram>(&mut self, ram: &mut R, rest: &Rest, level: u8) -> StepEnd
+    fn process<R: Ram>(&mut self, ram: &mut R, rest: &Rest, level: u8) -> Processed
         requires level { level < 8 }
         requires begun { 0 < self.old.steps }
         requires lawful { IsLawfulRest rest.now }
         requires seated { IsSeated self.old (R.bytes ram.old) }
         ensures means { by_its_end (run guest_bus (rest_in rest.now level self.old.cpu)
             (bus_side (guested_on self.old (R.bytes ram.old))))
-            ≡ ((result, self.new.cpu), bus_side (guested_on self.new (R.bytes ram.new))) }
+            ≡ ((result.end, self.new.cpu), bus_side (guested_on self.new (R.bytes ram.new))) }
+        ensures stays { result.stays ≡ true
+            → shadow_on self.new (R.bytes ram.new) ≡ shadow_on self.old (R.bytes ram.old) }
         ensures guest { self.new ≡ processed self.old self.new }
         ensures seated { IsSeated self.new (R.bytes ram.new) }
         ensures within { OnlyBetween self.old.base (end_of self.old) (R.bytes ram.old) (R.bytes ram.new) }
@@ -75,12 +86,16 @@ impl Guest {
             &mut self.tlb,
             &mut self.shadow,
         );
-        rest.carry_out(&mut self.decoder, &mut self.cpu, &mut port, level)
+        let end = rest.carry_out(&mut self.decoder, &mut self.cpu, &mut port, level);
+        Processed {
+            end,
+            stays: !port.has_changed(),
+        }
     }
 
     /// Carries out what is left of a step that has begun, with an interrupt of this level asked for, and counts it by
-    /// its class.
-    pub(crate) fn assist(&mut self, board: &mut Board, rest: &Rest, level: u8, class: Class)
+    /// its class. Answers whether a board that ran the guest before it may go on with what it keeps.
+    pub(crate) fn assist(&mut self, board: &mut Board, rest: &Rest, level: u8, class: Class) -> bool
         requires level { level < 8 }
         requires counted { steps_in self.old.tally < self.old.steps }
         requires lawful { IsLawfulRest rest.now }
@@ -88,6 +103,7 @@ impl Guest {
         ensures means { guested_on self.new board.new.world.ram ≡ ended_at self.old.steps
             (run guest_bus (rest_in rest.now level self.old.cpu)
             (bus_side (guested_on self.old board.old.world.ram))) }
+        ensures stays { result ≡ true → StaysReady self.old self.new board.old.world.ram board.new.world.ram }
         ensures tally { self.new.tally ≡ tallied class self.old.tally }
         ensures steps { self.new.steps ≡ self.old.steps }
         ensures same { IsSame self.old self.new }
@@ -95,8 +111,10 @@ impl Guest {
         ensures within { OnlyBetween self.old.base (end_of self.old) board.old.world.ram board.new.world.ram }
         ensures others { but_ram board.new ≡ but_ram board.old }
     {
-        let end = self.process(board, rest, level);
-        self.state = state_after(end, &self.cpu, &self.devices);
+        let space = self.cpu.space();
+        let processed = self.process(board, rest, level);
+        self.state = state_after(processed.end, &self.cpu, &self.devices);
         self.counts.add(class);
+        processed.stays & (self.cpu.space() == space)
     }
 }

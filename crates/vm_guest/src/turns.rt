@@ -24,11 +24,14 @@ impl Guest {
         ensures native { RisesByAtMost self.old.steps self.new.steps native.old native.new }
     {
         let mut left = limit;
+        let mut ready = false;
         while left > 0 {
             if !takes_steps(self.state) {
                 return;
             }
-            left -= self.advance(board, left, native);
+            let advance = self.advance(board, left, native, ready);
+            ready = advance.ready;
+            left -= advance.steps;
         }
     }
 

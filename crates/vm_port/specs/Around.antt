@@ -1,5 +1,5 @@
 -- What no call of a guest's bus changes, and what no change of its memory does.
-use Rattle.std.specs.Prelude.{ℕ, List}
+use Rattle.std.specs.Prelude.{ℕ, Bool, List}
 use Rattle.std.specs.Borrow.{GName}
 use Rattle.mb_port.specs.declared.types.Mmu.{Mmu}
 use Rattle.mb_model.specs.declared.kept.Kept.{Kept}
@@ -22,10 +22,11 @@ pub record Beyond (B : Type 0) : Type 0 where
   pub below : List ℕ
   pub above : List ℕ
 
--- and with it all of the guest but its RAM
+-- and with it all of the guest but its RAM, and whether its shadow may have changed
 pub record Beside (B : Type 0) : Type 0 where
   pub beyond : Beyond B
   pub mmu : Mmu
   pub devices : DeviceState
   pub kept : List Kept
   pub shadow : Shadowed
+  pub changed : Bool

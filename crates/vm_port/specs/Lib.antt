@@ -3,3 +3,4 @@ pub mod Around
 pub mod Places
 pub mod Parts
 pub mod Quiet
+pub mod Watched

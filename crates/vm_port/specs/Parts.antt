@@ -10,12 +10,17 @@ use Rattle.def_guests.specs.Seats.{own}
 use Rattle.def_guests.specs.Guests.{Guest}
 use Rattle.vm_port.specs.Own.{guest_in}
 use Rattle.vm_port.specs.Around.{Beyond, Beside}
+use Rattle.vm_port.specs.Watched.{Watched}
 use Rattle.vm_port.specs.declared.port.GuestPort.{GuestPort}
 
 -- the guest
 abbrev pub guest_of : {R : Type 0} {T : Ghosts R} → GuestPort R T → Guest
 guest_of {T = T} p =
     guest_in p.base p.size (T.bytes p.ram.now) p.shadow.now p.registers.now p.devices.now p.tlb.now
+
+-- and whether its shadow may have changed
+abbrev pub watched_of : {R : Type 0} {T : Ghosts R} → GuestPort R T → Watched
+watched_of p = record { guest = guest_of p; changed = p.changed }
 
 -- its machine's world
 abbrev pub world_of : {R : Type 0} {T : Ghosts R} → GuestPort R T → World
@@ -53,4 +58,5 @@ beside_of p = record {
   devices = p.devices.now;
   kept = p.tlb.now;
   shadow = tables_of p;
+  changed = p.changed;
 }

@@ -1,7 +1,6 @@
 //! The calls of a guest's bus.
 
-ghost use Rattle.def_guests.specs.Guests.{Guest};
-ghost use Rattle.def_guests.specs.Bus.{guest_bus};
+ghost use Rattle.vm_port.specs.Watched.{Watched, watched_bus};
 ghost use Rattle.vm_port.specs.Places.{HasPiece};
 
 use crate::port::GuestPort;
@@ -10,22 +9,22 @@ use mb_port::{Fault, Flush, Mmu, MmuReg, Piece, Place, Port, Space};
 use mb_walk::Ram;
 
 impl<R: Ram> Port for GuestPort<'_, R> {
-    ghost use Rattle.vm_port.specs.Parts.{guest_of, beyond_of};
+    ghost use Rattle.vm_port.specs.Parts.{watched_of, beyond_of};
     ghost use Rattle.vm_port.specs.Around.{Beyond};
 
-    ghost World = { Guest };
+    ghost World = { Watched };
 
-    ghost world = { guest_of };
+    ghost world = { watched_of };
 
     ghost Rest = { Beyond R.Rest };
 
     ghost rest = { beyond_of };
 
-    ghost bus = { guest_bus };
+    ghost bus = { watched_bus };
 
-    ghost Still = { Guest };
+    ghost Still = { Watched };
 
-    ghost still = { λ g. g };
+    ghost still = { λ s. s };
 
     ghost exists = { λ rest place. HasPiece place };
 

@@ -1,7 +1,7 @@
 //! Registers of translation, flushes and tests: what is kept is dropped, and with each kept entry that goes its entry
 //! in the shadow.
 
-ghost use Rattle.std.specs.Prelude.{◌≡◌, ◌<◌, ◌^◌, false, if◌then◌else◌};
+ghost use Rattle.std.specs.Prelude.{◌≡◌, ◌<◌, ◌^◌, false, true, if◌then◌else◌};
 ghost use Rattle.vm_shadow.specs.Shadows.{nothing, dropped};
 ghost use Rattle.mb_model.specs.Keeping.{rule_k, flushed, after_ptest as dropped_halves, after_movec, covers, NamesPages};
 ghost use Rattle.mb_model.specs.Pages.{page_of as page_number, has_big_pages as has_big};
@@ -62,10 +62,12 @@ impl<R: Ram> GuestPort<'_, R> {
         ensures world { world_of self.new
             ≡ record (world_of self.old) { kept = flushed what (world_of self.old).kept } }
         ensures shadow { tables_of self.new ≡ shadow_after_flush what (world_of self.old).kept (tables_of self.old) }
+        ensures changed { self.new.changed ≡ true }
         ensures beyond { beyond_of self.new ≡ beyond_of self.old }
     {
         self.leave(what);
         self.tlb.flush(what);
+        self.changed = true;
     }
 
     /// What PTEST drops of a page, and of the other half of it where pages have 8 KiB.
@@ -75,6 +77,7 @@ impl<R: Ram> GuestPort<'_, R> {
             ≡ record (world_of self.old) { kept = dropped_halves big space page (world_of self.old).kept } }
         ensures shadow { tables_of self.new
             ≡ shadow_after_drop big space page (world_of self.old).kept (tables_of self.old) }
+        ensures changed { self.new.changed ≡ true }
         ensures beyond { beyond_of self.new ≡ beyond_of self.old }
     {
         self.flushed(Flush::Page(space, page));
@@ -88,6 +91,7 @@ impl<R: Ram> GuestPort<'_, R> {
         ensures world { world_of self.new
             ≡ record (world_of self.old) { kept = after_movec rule_k which (world_of self.old).kept } }
         ensures shadow { tables_of self.new ≡ (if rule_k.forgets which then nothing else tables_of self.old) }
+        ensures changed { self.new.changed ≡ (if rule_k.forgets which then true else self.old.changed) }
         ensures beyond { beyond_of self.new ≡ beyond_of self.old }
     {
         match which {
@@ -106,6 +110,7 @@ impl<R: Ram> GuestPort<'_, R> {
     pub(crate) fn set_register(&mut self, which: MmuReg, value: u32)
         ensures world { world_of self.new ≡ after_set_mmu rule_k which value (world_of self.old) }
         ensures shadow { tables_of self.new ≡ (if rule_k.forgets which then nothing else tables_of self.old) }
+        ensures changed { self.new.changed ≡ (if rule_k.forgets which then true else self.old.changed) }
         ensures beyond { beyond_of self.new ≡ beyond_of self.old }
     {
         self.forget(which);
@@ -120,8 +125,10 @@ impl<R: Ram> GuestPort<'_, R> {
             ≡ shadow_after_test (has_big (world_of self.old).mmu)
             (matched false (world_of self.old).mmu space (page_number at)) space (page_number at)
             (world_of self.old).kept (tables_of self.old) }
+        ensures changed { self.new.changed ≡ true }
         ensures beyond { beyond_of self.new ≡ beyond_of self.old }
     {
+        self.changed = true;
         if transparent(self.registers.dtt0, self.registers.dtt1, space, at).is_some() {
             return MMUSR_MATCHED;
         }

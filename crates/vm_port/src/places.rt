@@ -43,6 +43,7 @@ impl<R: Ram> GuestPort<'_, R> {
         ensures world { world_of self.new
             ≡ record (world_of self.old) { ram = with_number (world_of self.old).ram place.at place.len value } }
         ensures shadow { tables_of self.new ≡ tables_of self.old }
+        ensures changed { self.new.changed ≡ self.old.changed }
         ensures beyond { beyond_of self.new ≡ beyond_of self.old }
     {
         let at = self.base + place.at;
@@ -57,6 +58,7 @@ impl<R: Ram> GuestPort<'_, R> {
         ensures taken { (result, world_of self.new) ≡ taken place (world_of self.old) }
         ensures range { IfSome result (λ number. number < 256 ^ place.len) }
         ensures shadow { tables_of self.new ≡ tables_of self.old }
+        ensures changed { self.new.changed ≡ self.old.changed }
         ensures beyond { beyond_of self.new ≡ beyond_of self.old }
     {
         if self.in_ram(place) {
@@ -74,6 +76,7 @@ impl<R: Ram> GuestPort<'_, R> {
         ensures stored { Stores (stored place value (world_of self.old)) (world_of self.old)
             (world_of self.new) result }
         ensures shadow { tables_of self.new ≡ tables_of self.old }
+        ensures changed { self.new.changed ≡ self.old.changed }
         ensures beyond { beyond_of self.new ≡ beyond_of self.old }
     {
         if self.in_ram(place) {

@@ -1,6 +1,6 @@
 //! A guest's bus: what it is made of, and what stands between its calls.
 
-ghost use Rattle.std.specs.Prelude.{◌≡◌, ◌+◌, ◌%◌, ◌≤◌, ◌<◌, ◌^◌, length};
+ghost use Rattle.std.specs.Prelude.{◌≡◌, ◌+◌, ◌%◌, ◌≤◌, ◌<◌, ◌^◌, false, length};
 ghost use Rattle.vm_shadow.specs.Mapped.{shadowed};
 ghost use Rattle.vm_shadow.specs.declared.area.TheConstants.{AREA_BYTES};
 ghost use Rattle.vm_shadow.specs.Area.{Maps};
@@ -28,6 +28,8 @@ pub struct GuestPort<'a, R: Ram> {
     pub(crate) devices: &'a mut Devices,
     pub(crate) registers: &'a mut Mmu,
     pub(crate) tlb: &'a mut Tlb,
+    /// Whether the shadow may have changed since the bus was made.
+    pub(crate) changed: bool,
     ghost aligned: { base % AREA_BYTES ≡ 0 },
     ghost whole: { size % AREA_BYTES ≡ 0 },
     ghost small: { length (R.bytes ram.now) < 2 ^ 32 },
@@ -63,6 +65,7 @@ impl<'a, R: Ram> GuestPort<'a, R> {
             × (result.registers.now ≡ registers.old) }
         ensures tlb { (result.tlb.ghost_name ≡ tlb.entry.ghost_name) × (result.tlb.now ≡ tlb.old) }
         ensures place { (result.base ≡ base) × (result.size ≡ size) }
+        ensures unchanged { result.changed ≡ false }
     {
         let _ = ram.size();
         GuestPort {
@@ -73,6 +76,14 @@ impl<'a, R: Ram> GuestPort<'a, R> {
             devices,
             registers,
             tlb,
+            changed: false,
         }
+    }
+
+    /// Whether the shadow may have changed since the bus was made: an entry was put, or one may have gone.
+    pub fn has_changed(&self) -> bool
+        ensures { result ≡ self.now.changed }
+    {
+        self.changed
     }
 }

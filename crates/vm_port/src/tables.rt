@@ -1,11 +1,12 @@
 //! The tables that a guest's bus keeps.
 
-ghost use Rattle.std.specs.Prelude.{◌≡◌, ◌+◌, ◌*◌, ◌≤◌, ◌<◌, ◌^◌};
+ghost use Rattle.std.specs.Prelude.{◌≡◌, ◌+◌, ◌*◌, ◌≤◌, ◌<◌, ◌^◌, true};
 ghost use Rattle.mb_model.specs.Keeping.{rule_k, displaced, filled as kept_after, NamesPages};
 ghost use Rattle.mb_model.specs.declared.pages.TheConstants.{PAGE_SIZE};
 ghost use Rattle.vm_shadow.specs.Shadows.{nothing, with_page_put, dropped};
 ghost use Rattle.def_guests.specs.Guests.{allows};
 ghost use Rattle.def_guests.specs.Bus.{without_kept};
+ghost use Rattle.vm_port.specs.Watched.{changed_by_fill};
 
 use crate::port::GuestPort;
 use def_machine::Reference;
@@ -32,9 +33,11 @@ impl<R: Ram> GuestPort<'_, R> {
         requires page { page < 2 ^ 20 }
         requires frame { PAGE_SIZE * frame + PAGE_SIZE ≤ self.old.size }
         ensures shadow { tables_of self.new ≡ with_page_put space page frame writable (tables_of self.old) }
+        ensures changed { self.new.changed ≡ true }
         ensures world { world_of self.new ≡ world_of self.old }
         ensures beyond { beyond_of self.new ≡ beyond_of self.old }
     {
+        self.changed = true;
         self.shadow.fill(self.ram, space, page, page_of(self.base) + frame, writable);
     }
 
@@ -42,18 +45,22 @@ impl<R: Ram> GuestPort<'_, R> {
     pub(crate) fn drop_page(&mut self, space: Space, page: u32)
         requires page { page < 2 ^ 20 }
         ensures shadow { tables_of self.new ≡ dropped space page (tables_of self.old) }
+        ensures changed { self.new.changed ≡ true }
         ensures world { world_of self.new ≡ world_of self.old }
         ensures beyond { beyond_of self.new ≡ beyond_of self.old }
     {
+        self.changed = true;
         self.shadow.drop_page(self.ram, space, page);
     }
 
     /// Removes all entries and tables.
     pub(crate) fn clear(&mut self)
         ensures shadow { tables_of self.new ≡ nothing }
+        ensures changed { self.new.changed ≡ true }
         ensures world { world_of self.new ≡ world_of self.old }
         ensures beyond { beyond_of self.new ≡ beyond_of self.old }
     {
+        self.changed = true;
         self.shadow.clear(self.ram);
     }
 
@@ -64,9 +71,12 @@ impl<R: Ram> GuestPort<'_, R> {
             ≡ record (world_of self.old) { kept = kept_after rule_k r.code k (world_of self.old).kept } }
         ensures shadow { tables_of self.new
             ≡ without_kept (displaced rule_k.capacity k self.old.tlb.now) (tables_of self.old) }
+        ensures changed { self.new.changed
+            ≡ changed_by_fill (displaced rule_k.capacity k self.old.tlb.now) self.old.changed }
         ensures beyond { beyond_of self.new ≡ beyond_of self.old }
     {
         if let Some(gone) = self.tlb.fill(k) {
+            self.changed = true;
             self.shadow.drop_page(self.ram, gone.space, gone.page);
         }
     }

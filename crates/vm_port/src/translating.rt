@@ -6,6 +6,7 @@ ghost use Rattle.mb_model.specs.Pages.{page_of as page_number, offset_of};
 ghost use Rattle.def_machine.specs.Access.{by_entry as by_kept_entry, searched, settled, translated, LeadsTo};
 ghost use Rattle.def_guests.specs.Bus.{gone_settled, without_kept, gone, put_entry_of, accessed};
 ghost use Rattle.def_guests.specs.Bus.{is_in_ram, is_split, is_writable};
+ghost use Rattle.vm_port.specs.Watched.{changed_by_access, changed_by_fill, changed_by_put};
 
 use crate::port::GuestPort;
 use def_machine::{Reference, Settled, by_entry, root, through, untranslated};
@@ -46,6 +47,8 @@ impl<R: Ram> GuestPort<'_, R> {
         ensures means { (result, world_of self.new) ≡ searched rule_k (world_of self.old) r }
         ensures shadow { tables_of self.new
             ≡ without_kept (gone_settled (world_of self.old) r Settled.Unsettled) (tables_of self.old) }
+        ensures changed { self.new.changed
+            ≡ changed_by_fill (gone_settled (world_of self.old) r Settled.Unsettled) self.old.changed }
         ensures beyond { beyond_of self.new ≡ beyond_of self.old }
         ensures offset { IfSome result (λ at. offset_of at ≡ offset_of r.at) }
     {
@@ -66,6 +69,7 @@ impl<R: Ram> GuestPort<'_, R> {
     fn translated(&mut self, r: Reference) -> Option<u32>
         ensures means { (result, world_of self.new) ≡ translated rule_k r (world_of self.old) }
         ensures shadow { tables_of self.new ≡ without_kept (gone (world_of self.old) r) (tables_of self.old) }
+        ensures changed { self.new.changed ≡ changed_by_fill (gone (world_of self.old) r) self.old.changed }
         ensures beyond { beyond_of self.new ≡ beyond_of self.old }
         ensures offset { IfSome result (λ at. offset_of at ≡ offset_of r.at) }
     {
@@ -108,6 +112,8 @@ impl<R: Ram> GuestPort<'_, R> {
     /// not allow it.
     fn put_entry(&mut self, r: Reference, place: Option<u32>)
         ensures shadow { tables_of self.new ≡ put_entry_of (world_of self.old) r (tables_of self.old) place }
+        ensures changed { self.new.changed
+            ≡ changed_by_put (world_of self.old) r (tables_of self.old) place self.old.changed }
         ensures world { world_of self.new ≡ world_of self.old }
         ensures beyond { beyond_of self.new ≡ beyond_of self.old }
     {
@@ -124,6 +130,8 @@ impl<R: Ram> GuestPort<'_, R> {
     pub(crate) fn accessed(&mut self, r: Reference) -> Option<u32>
         ensures means { (result, world_of self.new) ≡ translated rule_k r (world_of self.old) }
         ensures shadow { tables_of self.new ≡ accessed r (world_of self.old) (tables_of self.old) }
+        ensures changed { self.new.changed
+            ≡ changed_by_access r (world_of self.old) (tables_of self.old) self.old.changed }
         ensures beyond { beyond_of self.new ≡ beyond_of self.old }
         ensures offset { IfSome result (λ at. offset_of at ≡ offset_of r.at) }
     {

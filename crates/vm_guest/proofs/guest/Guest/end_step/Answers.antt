@@ -9,7 +9,7 @@ use Rattle.def_guests.specs.Seats.{Seat, guested_on}
 use Rattle.law_turns.specs.Reads.{read_by_frame}
 use Rattle.vm_guest.specs.Native.{IsFrameOf}
 use Rattle.vm_guest.specs.Stops.{BeginsAgain, IsStopped, Stopped}
-use Rattle.vm_guest.proofs.Stops.{again_of, lawful_of}
+use Rattle.vm_guest.proofs.Stops.{again_of, lawful_of, stays_ready}
 use Rattle.vm_guest.proofs.guest.Guest.end_step.Goals.{then-loop-refills-test+else-refill, else-loop-refills-test}
 use Rattle.vm_guest.proofs.guest.Guest.end_step.Goals.{After-frame-2-1, In-Some}
 use Rattle.vm_guest.proofs.guest.Guest.end_step.Goals as goal
@@ -210,6 +210,14 @@ returns-clause-takes c = λ w.
     let after = c.leave.ensures in
     (l.stopped w).turn c.loop-refills.frame l.reads l.end c.leave.new.self c.leave.new.board.world.ram after.means after.tally after.same after.seated
     after.within
+
+pub returns-clause-ready : goal.returns-clause-ready
+returns-clause-ready c = λ so.
+    let l = last (goal.at.returns-clause-ready c).After-frame-2-1 in
+    let after = c.leave.ensures in
+    let stopped = l.stopped c.requires.stopped in
+    stays_ready c.loop-refills-test.self c.leave.new.self c.loop-refills-test.board c.leave.new.board stopped.ready stopped.seated after.seated after.same
+    (after.stays so) after.others
 
 pub returns-clause-steps : goal.returns-clause-steps
 returns-clause-steps c = c.leave.ensures.steps ∙ (last (goal.at.returns-clause-steps c).After-frame-2-1).steps

@@ -15,6 +15,7 @@ loop-left-init c =
       takes = subst (λ (k : ℕ). Takes k s s) none (nothing_is_taken s c.requires.seated);
       steps = omega arith;
       retired = omega arith;
+      ready = λ so. absurd (let z : ⊥ = cc in z);
       exceptions = omega arith;
     }
 
@@ -32,18 +33,19 @@ loop-left-preserved c =
     let steps = now.steps in
     let retired = now.retired in
     let exceptions = now.exceptions in
-    let after = c.advance-left.ensures in
+    let after = c.advance-advance.ensures in
     let more = after.some.1 in
     let some = after.steps in
     let counted = after.native.0 in
     let left = after.native.1 in
     record {
       few = omega arith;
-      takes = more_taken c.args.limit c.loop-left.left c.advance-left.result (scene c.args.self.now c.args.board.now.world.ram c.args.native.now)
+      takes = more_taken c.args.limit c.loop-left.left c.advance-advance.result.steps (scene c.args.self.now c.args.board.now.world.ram c.args.native.now)
           (scene c.loop-left.self c.loop-left.board.world.ram c.loop-left.native)
-          (scene c.advance-left.new.self c.advance-left.new.board.world.ram c.advance-left.new.native) few more now.takes after.takes;
+          (scene c.advance-advance.new.self c.advance-advance.new.board.world.ram c.advance-advance.new.native) few more now.takes after.takes;
       steps = omega arith;
       retired = omega arith;
+      ready = after.ready;
       exceptions = omega arith;
     }
 
