@@ -5,6 +5,7 @@
 
 mod entering;
 mod fields;
+mod frame_longs;
 mod places;
 mod returning;
 mod stacking;

@@ -3,12 +3,13 @@
 ghost use Rattle.std.specs.Prelude.{◌≡◌, [], length, IfOk, IfErr};
 ghost use Rattle.mb_port.specs.Routine.{run};
 ghost use Rattle.mb_frames.specs.Layout.{frame_length};
-ghost use Rattle.def_processor.specs.Return.{read_head_of, read_longs_of, access_longs, access_of_longs, continues, is_movem};
-ghost use Rattle.def_processor.specs.Return.{are_movem_words, can_continue, high, low, drop_bytes_of, restore_of, take_access_of, take_frame_of};
+ghost use Rattle.def_processor.specs.Return.{read_head_of, read_longs_of, access_longs, continues, is_movem};
+ghost use Rattle.def_processor.specs.Return.{are_movem_words, can_continue, drop_bytes_of, restore_of, take_access_of, take_frame_of};
 ghost use Rattle.def_processor.specs.Return.{take_second_of, take_throwaway_of, take_frames_of};
 ghost use Rattle.mb_entry.specs.Takes.{head_seen, headed, longs_read, took, CanGoOn};
 ghost use Rattle.mb_entry.specs.Clauses.{NotTaken};
 
+use crate::frame_longs::{access_from, high, low};
 use arrayvec::ArrayVec;
 use mb_decode::{Decoded, decode};
 use mb_ea::{ReadFault, read_value};
@@ -73,45 +74,6 @@ fn read_longs<P: Port>(at: u32, port: &mut P) -> Result<ArrayVec<u32, LONGS>, Re
         at = at.wrapping_add(4);
     }
     Ok(longs)
-}
-
-/// The upper half of a long.
-fn high(long: u32) -> u16
-    ensures { result ≡ high long }
-{
-    (long >> 16) as u16
-}
-
-/// The lower half of a long.
-fn low(long: u32) -> u16
-    ensures { result ≡ low long }
-{
-    (long & 0xffff) as u16
-}
-
-/// The fields of an access error in their longs.
-#[tactic(auto, unfolding(def_processor::specs::Return::access_of_longs))]
-fn access_from(longs: &[u32]) -> Access
-    requires { length longs.now ≡ LONGS }
-    ensures { result ≡ access_of_longs longs.now }
-{
-    Access {
-        ea: longs[0],
-        ssw: high(longs[1]),
-        wb3s: low(longs[1]),
-        wb2s: high(longs[2]),
-        wb1s: low(longs[2]),
-        fa: longs[3],
-        wb3a: longs[4],
-        wb3d: longs[5],
-        wb2a: longs[6],
-        wb2d: longs[7],
-        wb1a: longs[8],
-        wb1d: longs[9],
-        pd1: longs[10],
-        pd2: longs[11],
-        pd3: longs[12],
-    }
 }
 
 /// CM of the special status word: whether the access error came from a transfer of a MOVEM, with which RTE goes on.

@@ -1,13 +1,11 @@
 -- Fields that follow one another, and the bytes in which they stand.
-use Rattle.std.proofs.Common.{◌≡◌, ℕ, ◌+◌, ◌^◌, ◌<◌, ◌≤◌, List, [], ◌∷◌, ◌++◌, length, take, drop, slice_index, refl, sym, ap, ◌∙◌, arith, append_assoc, length-append, append-nil, take-append-drop, length-drop}
+use Rattle.std.proofs.Common.{◌≡◌, ℕ, ◌+◌, ◌<◌, ◌≤◌, List, [], ◌∷◌, ◌++◌, length, take, drop, slice_index, refl, sym, ap, ◌∙◌, arith, append_assoc, length-append, append-nil, take-append-drop, length-drop}
 use Rattle.std.proofs.lemmas.List.{drop-drop, drop_at, get_or-drop}
 use Rattle.std.proofs.Math.Seq.{take-append_seam}
-use Rattle.std.specs.List.{All, AllByRecursion}
-use Rattle.std.proofs.lemmas.List.Elements.{All-from_recursion, recursion_from_All}
+use Rattle.std.specs.List.{AllByRecursion}
 use Rattle.byteorder.specs.Endian.{big_bytes, big_number}
 use Rattle.byteorder.specs.Numbers.{big_from-take, big_number-reads_back, length-bytes_high_first}
-use Rattle.mb_frames.specs.declared.frame.Access.{Access}
-use Rattle.mb_frames.specs.Layout.{Field, Fits, StandsIn, bytes_of_fields, fields_of_access}
+use Rattle.mb_frames.specs.Layout.{Field, Fits, StandsIn, bytes_of_fields}
 use Rattle.mb_frames.proofs.Numbers.{bytes-number}
 
 -- fields one after the other, the first at a place
@@ -85,24 +83,3 @@ fields_written b (f ∷ fs) place adjacent room bytes read =
     ∙ ap (λ (xs : List ℕ). big_bytes f.size f.value ++ xs) (moved ∙ later)
     ∙ sym (append_assoc (big_bytes f.size f.value) (bytes_of_fields fs) (drop (place + f.size + size_of fs) b))
     ∙ ap (λ (xs : List ℕ). (big_bytes f.size f.value ++ bytes_of_fields fs) ++ xs) tail
-
--- the longs from FA on
-abbrev pub last_longs : Access → List ℕ
-last_longs a = a.fa ∷ a.wb3a ∷ a.wb3d ∷ a.wb2a ∷ a.wb2d ∷ a.wb1a ∷ a.wb1d ∷ a.pd1 ∷ a.pd2 ∷ a.pd3 ∷ []
-
--- the fields of an access error fit, if its longs and words do
-pub access-fits : (a : Access) → All (λ long. long < 256 ^ 4) (a.ea ∷ [])
-    → All (λ word. word < 256 ^ 2) (a.ssw ∷ a.wb3s ∷ a.wb2s ∷ a.wb1s ∷ [])
-    → All (λ long. long < 256 ^ 4) (last_longs a)
-    → All Fits (fields_of_access a)
-access-fits a ea words longs =
-    All-from_recursion Fits (fields_of_access a)
-    (in_order a (ea 0 0 (omega arith))
-    (recursion_from_All (λ word. word < 256 ^ 2) (a.ssw ∷ a.wb3s ∷ a.wb2s ∷ a.wb1s ∷ []) words)
-    (recursion_from_All (λ long. long < 256 ^ 4) (last_longs a) longs))
-  where
-    in_order : (a : Access) → a.ea < 256 ^ 4
-        → AllByRecursion (λ word. word < 256 ^ 2) (a.ssw ∷ a.wb3s ∷ a.wb2s ∷ a.wb1s ∷ [])
-        → AllByRecursion (λ long. long < 256 ^ 4) (last_longs a)
-        → AllByRecursion Fits (fields_of_access a)
-    in_order a ea (ssw, (wb3s, (wb2s, (wb1s, _)))) longs = (ea, (ssw, (wb3s, (wb2s, (wb1s, longs)))))

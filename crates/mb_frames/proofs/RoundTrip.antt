@@ -1,5 +1,5 @@
 -- Reading a frame and its bytes undo one another.
-use Rattle.std.proofs.Common.{◌/◌, ◌%◌, ◌≡◌, ℕ, ◌+◌, ◌*◌, ◌<◌, ◌≤◌, List, [], ◌++◌, length, drop, slice_index, Some, None, true, nat_le, refl, sym, ap, ◌∙◌, arith, subst, if◌then◌else◌, append-nil, length-append, inl, inr}
+use Rattle.std.proofs.Common.{rules, ◌==◌, ◌∷◌, ◌/◌, ◌%◌, ◌≡◌, ℕ, ◌+◌, ◌*◌, ◌<◌, ◌≤◌, List, [], ◌++◌, length, drop, slice_index, Some, None, true, nat_le, refl, sym, ap, ◌∙◌, arith, subst, if◌then◌else◌, append-nil, length-append, inl, inr}
 use Rattle.std.proofs.lemmas.Bool.{le-leb}
 use Rattle.std.specs.List.{AllByRecursion}
 use Rattle.std.specs.Prelude.{All, IfSome}
@@ -8,8 +8,9 @@ use Rattle.std.proofs.lemmas.List.Elements.{recursion_from_All, All-from_recursi
 use Rattle.mb_frames.specs.declared.frame.Access.{Access}
 use Rattle.mb_frames.specs.declared.frame.Frame.{Frame}
 use Rattle.mb_frames.specs.declared.frame.Frame.TheVariants as frame
-use Rattle.mb_frames.specs.Layout.{BeginsWith, Fits, IsFrame, StandsIn, bytes_of_fields, fields_of, fields_of_access, format_of, frame_bytes, frame_length, long_field, vector_offset_of, word_field}
-use Rattle.mb_frames.specs.Reading.{access_in, format_in, frame_in, frame_of_format, long_at, offset_in, word_at}
+use Rattle.mb_frames.specs.Layout.{AccessField, BeginsWith, Fits, IsFrame, StandsIn, access_table, bytes_of_fields, fields_of, fields_of_access, format_of, frame_bytes, frame_length, long_field, vector_offset_of, word_field}
+use Rattle.mb_frames.specs.Reading.{access_in, format_in, frame_in, frame_of_format, long_at, offset_in, with_fields, word_at}
+use Rattle.mb_frames.specs.AccessFields.{no_fields}
 use Rattle.mb_frames.proofs.Fields.{AreAdjacent, ReadsAs, fields_read, fields_stand, fields_written, length-bytes_of_fields, size_of}
 use Rattle.mb_frames.specs.declared.places.TheConstants.{LONGEST}
 
@@ -32,25 +33,23 @@ frame_in-format b format e long_enough =
     let test : nat_le (frame_length format) (length b) ≡ true = le-leb (frame_length format) (length b) long_enough in
     rw (e, test) refl
 
+-- the fields of a part of the table as `a` has them
+abbrev set_as : Access → List AccessField → Access → Access
+set_as a [] others = others
+set_as a (f ∷ fs) others = set_as a fs (f.with_value (f.value a) others)
+
+-- where each is read as `a` has it
+with_fields-set_as : (word long : ℕ → ℕ) (a : Access) (fs : List AccessField) (others : Access)
+    → AllByRecursion (λ f. (if f.size == 2 then word f.offset else long f.offset) ≡ f.value a) fs
+    → with_fields word long fs others ≡ set_as a fs others
+with_fields-set_as word long a [] others read = refl
+with_fields-set_as word long a (f ∷ fs) others (first, rest) =
+    ap (λ n. with_fields word long fs (f.with_value n others)) first
+    ∙ with_fields-set_as word long a fs (f.with_value (f.value a) others) rest
+
 pub access-read : (b : List ℕ) (a : Access) → AllByRecursion (ReadsAs b) (fields_of_access a) → access_in b ≡ a
-access-read b a (ea, (ssw, (wb3s, (wb2s, (wb1s, (fa, (wb3a, (wb3d, (wb2a, (wb2d, (wb1a, (wb1d, (pd1, (pd2, (pd3, end))))))))))))))) =
-    rw (
-      long-read b 0x08 _ ea,
-      word-read b 0x0C _ ssw,
-      word-read b 0x0E _ wb3s,
-      word-read b 0x10 _ wb2s,
-      word-read b 0x12 _ wb1s,
-      long-read b 0x14 _ fa,
-      long-read b 0x18 _ wb3a,
-      long-read b 0x1C _ wb3d,
-      long-read b 0x20 _ wb2a,
-      long-read b 0x24 _ wb2d,
-      long-read b 0x28 _ wb1a,
-      long-read b 0x2C _ wb1d,
-      long-read b 0x30 _ pd1,
-      long-read b 0x34 _ pd2,
-      long-read b 0x38 _ pd3,
-    ) refl
+unfolding word_at long_at
+access-read b a read = with_fields-set_as (word_at b) (long_at b) a access_table no_fields read
 
 -- where the fields of a frame are read, the frame is
 pub frame_in-read : (b : List ℕ) (f : Frame) → size_of (fields_of f) ≤ length b → vector_offset_of f < 0x1000
@@ -75,8 +74,7 @@ fields-adjacent : (f : Frame) → AreAdjacent 0 (fields_of f)
 fields-adjacent (frame.Short sr pc offset) = (refl, (refl, (refl, tt)))
 fields-adjacent (frame.Throwaway sr pc offset) = (refl, (refl, (refl, tt)))
 fields-adjacent (frame.Address sr pc offset address) = (refl, (refl, (refl, (refl, tt))))
-fields-adjacent (frame.Access sr pc offset access) =
-    (refl, (refl, (refl, (refl, (refl, (refl, (refl, (refl, (refl, (refl, (refl, (refl, (refl, (refl, (refl, (refl, (refl, (refl, tt))))))))))))))))))
+fields-adjacent (frame.Access sr pc offset access) = search rules
 
 -- each field of a frame stands in its bytes at its offset
 pub frame_bytes-stand : (f : Frame) (rest : List ℕ) → All (StandsIn (frame_bytes f ++ rest)) (fields_of f)
@@ -133,16 +131,8 @@ access-written : (b : List ℕ) → format_in b ≡ 7 → LONGEST ≤ length b �
     → BeginsWith b (frame.Access (word_at b 0) (long_at b 2) (offset_in b) (access_in b))
 unfolding word_at long_at
 access-written b e room bytes =
-    frame_bytes-read b (frame.Access (word_at b 0) (long_at b 2) (offset_in b) (access_in b)) room bytes (
-      refl,
-      (
-        refl,
-        (
-          format_word (word_at b 6) 7 e,
-          (refl, (refl, (refl, (refl, (refl, (refl, (refl, (refl, (refl, (refl, (refl, (refl, (refl, (refl, (refl, tt))))))))))))))),
-        ),
-      ),
-    )
+    frame_bytes-read b (frame.Access (word_at b 0) (long_at b 2) (offset_in b) (access_in b)) room bytes
+    (refl, (refl, (format_word (word_at b 6) 7 e, search rules)))
 
 frame_of_format-written : (b : List ℕ) (format : ℕ) → format_in b ≡ format → frame_length format ≤ length b
     → ((i : ℕ) → slice_index b i < 256) → IfSome (frame_of_format format b) (BeginsWith b)

@@ -2,3 +2,4 @@ pub mod Layout
 pub mod Reading
 pub mod AccessFields
 pub mod Worked
+pub mod Values

@@ -5,39 +5,17 @@ ghost use Rattle.std.specs.List.{flat_map};
 ghost use Rattle.arrayvec.specs.ArrayVec.{array_vec_len};
 ghost use Rattle.byteorder.specs.Endian.{big_bytes};
 ghost use Rattle.mb_frames.specs.declared.frame.Frame.{Frame};
+ghost use Rattle.mb_frames.specs.declared.places.TheConstants.{LONGEST};
 ghost use Rattle.mb_frames.specs.Layout.{BeginsWith, Fits, IsFormat, IsFrame, bytes_of_fields, fields_of, fields_of_access, format_of, frame_bytes, frame_length, head, vector_offset_of, StandsIn};
+ghost use Rattle.mb_frames.specs.Values.{IsInBytes, value_bytes};
 ghost use Rattle.mb_frames.specs.Reading.{access_in, format_in, frame_in, frame_of_format, long_at, word_at};
 
-use crate::frame::{Access, Frame};
+use crate::frame::{Access, Frame, access_fields};
 use crate::places::{LONGEST, LONGS};
+use crate::source::{FieldSource, access_by};
+use crate::value::{Value, push, push_all};
 use arrayvec::ArrayVec;
 use byteorder::{BigEndian, ByteOrder};
-
-/// Appends words, the higher byte of each first.
-fn push_words(bytes: &mut ArrayVec<u8, LONGEST>, words: &[u16])
-    requires { array_vec_len bytes.old + 2 * length words.now ≤ LONGEST }
-    ensures bytes { bytes.new.items ≡ bytes.old.items ++ flat_map (λ word. big_bytes 2 word) words.now }
-    ensures fits { All (λ word. word < 256 ^ 2) words.now }
-{
-    for word in words {
-        let mut high_first = [0; 2];
-        BigEndian::write_u16(&mut high_first, *word);
-        bytes.try_extend_from_slice(&high_first).unwrap();
-    }
-}
-
-/// Appends longs, the highest byte of each first.
-fn push_longs(bytes: &mut ArrayVec<u8, LONGEST>, longs: &[u32])
-    requires { array_vec_len bytes.old + 4 * length longs.now ≤ LONGEST }
-    ensures bytes { bytes.new.items ≡ bytes.old.items ++ flat_map (λ long. big_bytes 4 long) longs.now }
-    ensures fits { All (λ long. long < 256 ^ 4) longs.now }
-{
-    for long in longs {
-        let mut high_first = [0; 4];
-        BigEndian::write_u32(&mut high_first, *long);
-        bytes.try_extend_from_slice(&high_first).unwrap();
-    }
-}
 
 /// Appends what every frame begins with: the status register, the program counter, the format word.
 fn push_head(bytes: &mut ArrayVec<u8, LONGEST>, sr: u16, pc: u32, format: u16, offset: u16)
@@ -47,9 +25,22 @@ fn push_head(bytes: &mut ArrayVec<u8, LONGEST>, sr: u16, pc: u32, format: u16, o
     ensures bytes { bytes.new.items ≡ bytes.old.items ++ bytes_of_fields (head sr pc format offset) }
     ensures fits { All Fits (head sr pc format offset) }
 {
-    push_words(bytes, &[sr]);
-    push_longs(bytes, &[pc]);
-    push_words(bytes, &[format * 0x1000 + offset]);
+    let format_word = format * 0x1000 + offset;
+    push_all(
+        bytes,
+        &[Value::Word(sr), Value::Long(pc), Value::Word(format_word)],
+    );
+}
+
+/// The value of a field, by what its line says.
+macro_rules! value {
+    (word $value:expr) => { Value::Word($value) };
+    (long $value:expr) => { Value::Long($value) };
+}
+
+/// The values of all fields of an access error.
+macro_rules! value_of_each {
+    ($access:ident; $($name:ident: $size:ident at $place:literal,)*) => { [$(value!($size $access.$name)),*] };
 }
 
 /// Appends the fields of an access error. They fit, by their types.
@@ -58,23 +49,7 @@ fn push_access(bytes: &mut ArrayVec<u8, LONGEST>, access: Access)
     ensures bytes { bytes.new.items ≡ bytes.old.items ++ bytes_of_fields (fields_of_access access) }
     ensures fits { All Fits (fields_of_access access) }
 {
-    push_longs(bytes, &[access.ea]);
-    push_words(bytes, &[access.ssw, access.wb3s, access.wb2s, access.wb1s]);
-    push_longs(
-        bytes,
-        &[
-            access.fa,
-            access.wb3a,
-            access.wb3d,
-            access.wb2a,
-            access.wb2d,
-            access.wb1a,
-            access.wb1d,
-            access.pd1,
-            access.pd2,
-            access.pd3,
-        ],
-    );
+    push_all(bytes, &access_fields!(value_of_each, access));
 }
 
 /// Appends a frame.
@@ -95,7 +70,7 @@ fn push_frame(bytes: &mut ArrayVec<u8, LONGEST>, f: &Frame)
             address,
         } => {
             push_head(bytes, sr, pc, 2, offset);
-            push_longs(bytes, &[address]);
+            push(bytes, Value::Long(address));
         }
         Frame::Access {
             sr,
@@ -142,28 +117,33 @@ fn long_at(b: &[u8], place: usize) -> u32
     BigEndian::read_u32(&b[place..])
 }
 
+/// Bytes that begin with the frame of an access error.
+#[derive(Clone, Copy)]
+struct Bytes<'a> {
+    bytes: &'a [u8],
+    ghost whole: { LONGEST ≤ length bytes.now },
+}
+
+impl FieldSource for Bytes<'_> {
+    ghost words = { λ s. word_at s.bytes.now };
+
+    ghost longs = { λ s. long_at s.bytes.now };
+
+    fn word(&self, place: usize) -> u16 {
+        word_at(self.bytes, place)
+    }
+
+    fn long(&self, place: usize) -> u32 {
+        long_at(self.bytes, place)
+    }
+}
+
 /// The fields of an access error, from the bytes of its frame.
 fn access_from(b: &[u8]) -> Access
     requires { LONGEST ≤ length b.now }
     ensures { result ≡ access_in b.now }
 {
-    Access {
-        ea: long_at(b, 0x08),
-        ssw: word_at(b, 0x0c),
-        wb3s: word_at(b, 0x0e),
-        wb2s: word_at(b, 0x10),
-        wb1s: word_at(b, 0x12),
-        fa: long_at(b, 0x14),
-        wb3a: long_at(b, 0x18),
-        wb3d: long_at(b, 0x1c),
-        wb2a: long_at(b, 0x20),
-        wb2d: long_at(b, 0x24),
-        wb1a: long_at(b, 0x28),
-        wb1d: long_at(b, 0x2c),
-        pd1: long_at(b, 0x30),
-        pd2: long_at(b, 0x34),
-        pd3: long_at(b, 0x38),
-    }
+    access_by(&Bytes { bytes: b })
 }
 
 /// The frame of a format, if the bytes are long enough for it and the format is one of the four.

@@ -65,3 +65,30 @@ pub struct Access {
     /// The fourth long of a line; of a MOVEM, how many transfers are done.
     pub pd3: u32,
 }
+
+/// The fields of [`Access`] in the order of the frame. A line says of a field its name, whether it is a word or a long,
+/// and its place in the frame. `access_fields!(each, it)` hands all lines to the macro `each`, behind the variable `it`.
+macro_rules! access_fields {
+    ($each:ident, $it:ident) => {
+        $each! {
+            $it;
+            ea: long at 0x08,
+            ssw: word at 0x0c,
+            wb3s: word at 0x0e,
+            wb2s: word at 0x10,
+            wb1s: word at 0x12,
+            fa: long at 0x14,
+            wb3a: long at 0x18,
+            wb3d: long at 0x1c,
+            wb2a: long at 0x20,
+            wb2d: long at 0x24,
+            wb1a: long at 0x28,
+            wb1d: long at 0x2c,
+            pd1: long at 0x30,
+            pd2: long at 0x34,
+            pd3: long at 0x38,
+        }
+    };
+}
+
+pub(crate) use access_fields;

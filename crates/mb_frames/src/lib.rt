@@ -9,11 +9,14 @@ mod frame;
 mod laws;
 mod pend;
 mod places;
+mod source;
 mod status_bits;
+mod value;
 
 pub use bytes::{from_bytes, to_bytes};
 pub use frame::{Access, Frame};
 pub use laws::{no_trace_bit, worked_frames};
 pub use pend::Pend;
 pub use places::{FIELDS_PLACE, FORMAT_PLACE, LONGEST, LONGS, PC_PLACE, SR_PLACE};
+pub use source::{FieldSource, access_by};
 pub use status_bits::{ATC, CM, CT, LK, MA, RW, SIZE, TT, V};
