@@ -1,19 +1,14 @@
 -- What registers spell, by what few of them that have changed spelled before.
-use Rattle.std.proofs.Common.{◌≡◌, ◌≢◌, ◌∙◌, ℕ, zero, suc, ◌+◌, ◌-◌, ◌*◌, ◌%◌, ◌^◌, ◌<◌, ◌⊎◌, inl, inr, List, [], ◌∷◌, ◌++◌, length, length-append, get_or, set, pred, zero-mul, ap, sym, subst, refl, arith}
+use Rattle.std.proofs.Common.{◌≡◌, ◌≢◌, ◌∙◌, ℕ, zero, suc, ◌+◌, ◌-◌, ◌*◌, ◌%◌, ◌^◌, ◌<◌, ◌⊎◌, inl, inr, List, [], ◌∷◌, ◌++◌, length, length-append}
+use Rattle.std.proofs.Common.{get_or, pred, zero-mul, ap, sym, subst, refl, arith}
 use Rattle.std.proofs.Math.Nat.{mul_assoc, mul_comm, mul-add, add-mul}
 use Rattle.std.proofs.lemmas.Nat.{mul-mod_first, pow-add}
-use Rattle.std.proofs.lemmas.Grind.{same_number_lists, get_or-set_at}
-use Rattle.std.proofs.lemmas.List.{get_or-set_other, length-set}
+use Rattle.std.proofs.lemmas.Grind.{same_number_lists}
 use Rattle.mb_instr.specs.declared.registers.Plain.{Plain}
 use Rattle.def_runs.specs.Marks.{numbers_of, spelled, HasNumbers}
-use Rattle.mb_short.specs.Changed.{AgreeBut, Differ}
-use Rattle.mb_short.specs.declared.changed.Changed.{Changed}
-use Rattle.mb_short.specs.declared.changed.Changed.TheVariants.{Nothing, Data, Address, Both, Any}
+use Rattle.mb_short.specs.Changed.{AgreeBut}
 use Rattle.mb_board.specs.Fits.{IsFit}
 use Rattle.mb_board.specs.Spelling.{flow_of, spelled_in_parts, without_flow, Spell}
-
-same_or_other : (i j : ℕ) → (i ≡ j) ⊎ (i ≢ j)
-same_or_other i j = grind arith
 
 -- ---- a digit of a sum
 
@@ -197,27 +192,3 @@ address_spelled n xs ys sum place result one eight is e less d behind h =
     ap (λ (k : ℕ). 31 ^ k) (let within = one.within in let f : 17 - (8 + n) ≡ (7 - n) + 2 = omega arith in f) ∙ pow-add 31 (7 - n) 2 in
     address_moved (spelled d * 31 ^ 10) (spelled xs) (spelled ys) behind sum result _ _ _ _ (by_agreement n xs ys one eight)
     (counts place w (31 ^ (17 - (8 + n))) (31 ^ 2) (get_or xs n 0) is parts) (counts place w (31 ^ (17 - (8 + n))) (31 ^ 2) (get_or ys n 0) is parts) e less h
-
--- ---- registers that become others
-
-pub put_in : (n : ℕ) (xs ys : List ℕ) → AgreeBut n xs ys → set xs n (get_or ys n 0) ≡ ys
-put_in n xs ys one =
-    same_number_lists (set xs n (get_or ys n 0)) ys (length-set xs n (get_or ys n 0) ∙ sym one.as_many)
-    (λ k within. elim (same_or_other k n) [
-      | inl here ↦ get_or-set_at xs n k (get_or ys n 0) 0 here (let e = one.as_many in let f = length-set xs n (get_or ys n 0) in omega arith)
-          ∙ ap (λ (j : ℕ). get_or ys j 0) (sym here)
-      | inr other ↦ get_or-set_other xs n k (get_or ys n 0) 0 other ∙ sym (one.others k other)
-    ])
-
--- ---- registers whose PC and condition codes are not followed
-
-pub differ_too : (c : Changed) (p r q : Plain) → r.d ≡ p.d → r.a ≡ p.a → Differ c p q → Differ c r q
-differ_too Nothing p r q e f h = (h.0 ∙ sym e, h.1 ∙ sym f)
-differ_too (Data n) p r q e f h = (subst (λ (l : List ℕ). AgreeBut n l q.d) (sym e) h.0, h.1 ∙ sym f)
-differ_too (Address m) p r q e f h = (h.0 ∙ sym e, subst (λ (l : List ℕ). AgreeBut m l q.a) (sym f) h.1)
-differ_too (Both n m) p r q e f h =
-    (subst (λ (l : List ℕ). AgreeBut n l q.d) (sym e) h.0, subst (λ (l : List ℕ). AgreeBut m l q.a) (sym f) h.1)
-differ_too Any p r q e f h = tt
-
-pub sum_too : (p r : Plain) (sum : ℕ) → r.d ≡ p.d → r.a ≡ p.a → sum ≡ without_flow p → sum ≡ without_flow r
-sum_too p r sum e f h = h ∙ ap (λ (l : List ℕ). spelled_in_parts l p.a 0) (sym e) ∙ ap (λ (l : List ℕ). spelled_in_parts r.d l 0) (sym f)

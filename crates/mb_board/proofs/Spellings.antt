@@ -1,10 +1,11 @@
 -- What numbers spell, as machine words sum it.
 use Rattle.std.specs.Prelude.{All}
-use Rattle.std.proofs.Common.{◌≡◌, ◌∙◌, ℕ, ◌+◌, ◌*◌, ◌%◌, ◌^◌, ◌<◌, List, [], ◌∷◌, ◌++◌, length, get_or, length-append, ap, sym, zero-mul, arith}
+use Rattle.std.proofs.Common.{◌≡◌, ◌∙◌, ℕ, ◌+◌, ◌-◌, ◌*◌, ◌%◌, ◌^◌, ◌<◌, List, [], ◌∷◌, ◌++◌, length, get_or, length-append, ap, sym, zero-mul, arith}
 use Rattle.mb_instr.specs.declared.registers.Plain.{Plain}
 use Rattle.def_runs.specs.Marks.{numbers_of, sum_with_all, spelled, with_spelled, trail, HasNumbers}
 use Rattle.def_runs.proofs.Spellings.{sum-spells, numbers-append, trails-by_spelling}
-use Rattle.mb_board.specs.Spelling.{Spell}
+use Rattle.def_runs.specs.Native.{NativeState, with_retired}
+use Rattle.mb_board.specs.Spelling.{Begins, Spell}
 
 eight : (t a b c d e f g h : ℕ) → t < 2 ^ 64
     → ((t * 852891037441 % 2 ^ 64 + a * 27512614111 % 2 ^ 64) % 2 ^ 64
@@ -61,6 +62,15 @@ places t s = omega arith
 pub with-remainder : (t s : ℕ) → with_spelled t (s % 2 ^ 64) ≡ with_spelled t s
 with-remainder t s = omega arith
 
+-- the same spelling twice
+pub twice : (t s : ℕ) → (t * 17799023633837314945 % 2 ^ 64 + s * 12439396676277002690 % 2 ^ 64) % 2 ^ 64 ≡ with_spelled (with_spelled t s) s
+twice t s = omega arith
+
+-- a trail without the spelling behind it
+pub back : (t s trail : ℕ) → t < 2 ^ 64 → s < 2 ^ 64 → trail ≡ with_spelled t s
+    → (trail + (2 ^ 64 - s)) % 2 ^ 64 * 11621620356712541761 % 2 ^ 64 ≡ t
+back t s trail less within e = omega (arith, less, within, e)
+
 -- the trail by what is kept of the spellings
 pub trail-by_spellings : (t beginning end : ℕ) (p q : Plain) → Spell p beginning → Spell q end → t < 2 ^ 64
     → with_spelled (with_spelled t beginning) end ≡ trail t (p ∷ q ∷ [])
@@ -70,5 +80,37 @@ trail-by_spellings t beginning end p q f g h =
     ∙ ap (λ (s : ℕ). with_spelled (with_spelled t (spelled (numbers_of p))) s) g.remainder
     ∙ with-remainder (with_spelled t (spelled (numbers_of p))) (spelled (numbers_of q))
     ∙ sym (trails-by_spelling t p q f.numbers g.numbers h)
+
+-- ---- a trail with the registers at which a step begins
+
+pub begins : (p : Plain) (native : NativeState) (s trail : ℕ) → Spell p s → native.trail < 2 ^ 64 → trail ≡ with_spelled native.trail s
+    → Begins p native trail
+begins p native s trail h small e = record {
+  numbers = h.numbers;
+  fit = h.fit;
+  small = small;
+  entered = e ∙ ap (λ (x : ℕ). with_spelled native.trail x) h.remainder ∙ with-remainder native.trail (spelled (numbers_of p));
+}
+
+pub begins_again : (p q : Plain) (native : NativeState) (end trail after : ℕ) → Begins p native trail → Spell q end
+    → after ≡ with_spelled (with_spelled trail end) end → Begins q (with_retired p q native) after
+begins_again p q native end trail after b h e =
+    let s = spelled (numbers_of q) in
+    let so_far = trails-by_spelling native.trail p q b.numbers h.numbers b.small in record {
+      numbers = h.numbers;
+      fit = h.fit;
+      small = (omega (arith, so_far));
+      entered =
+          e ∙ ap (λ (x : ℕ). with_spelled (with_spelled trail x) x) h.remainder
+          ∙ ap (λ (x : ℕ). with_spelled x (s % 2 ^ 64)) (with-remainder trail s) ∙ with-remainder (with_spelled trail s) s
+          ∙ ap (λ (x : ℕ). with_spelled (with_spelled x s) s) b.entered ∙ ap (λ (x : ℕ). with_spelled x s) (sym so_far);
+    }
+
+pub begun_back : (p : Plain) (native : NativeState) (s trail : ℕ) → Begins p native trail → Spell p s
+    → (trail + (2 ^ 64 - s)) % 2 ^ 64 * 11621620356712541761 % 2 ^ 64 ≡ native.trail
+begun_back p native s trail b h =
+    let less : s < 2 ^ 64 = let e = h.remainder in omega (arith, e) in
+    back native.trail s trail b.small less
+    (b.entered ∙ sym (with-remainder native.trail (spelled (numbers_of p))) ∙ ap (λ (x : ℕ). with_spelled native.trail x) (sym h.remainder))
 
 pub ruleset spellings = (eight-at_once)

@@ -15,6 +15,7 @@ use Rattle.def_runs.specs.declared.RunEnd.{RunEnd}
 use Rattle.def_runs.specs.declared.RunEnd.TheVariants.{Counted, Exit, Gone}
 use Rattle.def_runs.specs.Native.{NativeState, Ran, user_step, user_run, ran_by, about_to_run, goes_on, with_retired, EndsBy}
 use Rattle.mb_board.specs.Fits.{Continues, IsFit, FitsAlong}
+use Rattle.mb_board.specs.Spelling.{Begins, Leads}
 use Rattle.def_runs.proofs.RunEnds.{run-none, run-on, run-off, goes-on, runs-end_by_cause}
 
 not_counted : (e : RunEnd) → (e ≡ Counted → ⊥) → goes_on e ≡ false
@@ -119,6 +120,11 @@ pub continues_on : (n k j : ℕ) (from at behind : Ran) → Continues n from k a
 continues_on n k j from at behind first second =
     record { run = second.run ∙ first.run; fit = λ later. first.fit (second.fit later) }
 
+-- whatever the registers before it
+pub continues_any : (k : ℕ) (m : Machine) (native : NativeState) (b c : Plain) → 0 < k
+    → Continues k (about_to_run m native b) k (about_to_run m native c)
+continues_any k m native b c some = record { run = any_before k m native c b some; fit = fits_any k m native c b }
+
 -- behind a step
 pub continues_behind : (k n : ℕ) (r : Ran) (m : Machine) (native : NativeState) (b before : Plain) → k ≡ n + 1 → 0 < n
     → ran_of Counted m native b ≡ ran_by (user_step r.machine) r → IsFit (plain_of r.machine.cpu.regs)
@@ -176,3 +182,34 @@ quick_step m after still means steps state =
     ∙ ap (λ (s : RunState). (let r : Finish × Machine = (finish.Went, record after { steps = m.steps; state = s }) in r)) state
     ∙ sym (ap (ended_with m) means)
     ∙ sym (ap (λ (d : DeviceState). ended_with m (processed rule_a [] (with_devices m d))) still)
+
+-- ---- calm steps
+
+pub leads_nowhere : (limit : ℕ) (m : Machine) (native : NativeState) (trail : ℕ) → Begins (plain_of m.cpu.regs) native trail
+    → Leads limit 0 m m native trail
+leads_nowhere limit m native trail begins = record {
+  counted = native;
+  begins = begins;
+  retired = (omega arith);
+  exceptions = refl;
+  continues = λ n more. continues_here n (n - 0) (about_to_run m native (plain_of m.cpu.regs)) (omega arith);
+}
+
+-- one more
+pub leads_on : (limit taken : ℕ) (from m after : Machine) (native : NativeState) (trail behind : ℕ) → taken < limit → takes_steps after.state ≡ true
+    → (finish.Went, after) ≡ user_step m
+    → ((counted : NativeState) → Begins (plain_of m.cpu.regs) counted trail
+    → Begins (plain_of after.cpu.regs) (with_retired (plain_of m.cpu.regs) (plain_of after.cpu.regs) counted) behind)
+    → Leads limit taken from m native trail → Leads limit (taken + 1) from after native behind
+leads_on limit taken from m after native trail behind less going step begins l =
+    let p = plain_of m.cpu.regs in
+    let counted = with_retired p (plain_of after.cpu.regs) l.counted in
+    let r = about_to_run m l.counted p in
+    let went = calm_ran m after l.counted counted p p going step refl refl in record {
+      counted = counted;
+      begins = begins l.counted l.begins;
+      retired = (let e = l.retired in omega arith);
+      exceptions = l.exceptions;
+      continues = λ n more. continues_on n (n - taken) (n - (taken + 1)) _ r _ (l.continues n more)
+          (continues_behind (n - taken) (n - (taken + 1)) r after counted p (plain_of after.cpu.regs) (omega arith) (omega arith) went l.begins.fit);
+    }

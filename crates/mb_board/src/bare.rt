@@ -20,7 +20,7 @@ use def_processor::Finish;
 use mb_devices::Devices;
 use mb_model::RunState;
 use mb_script::Script;
-use mb_step::rank;
+use mb_step::{Nobody, rank};
 
 /// How many of so many steps, behind those that are taken, come before the step of the script's next entry, which is
 /// the one at `next`.
@@ -118,14 +118,14 @@ impl Core {
         ensures ram { length self.new.world.ram ≡ length self.old.world.ram }
     {
         let space = self.cpu.space();
-        let mut taken = 0;
-        while taken < limit {
-            match self.step_at_once::<CALM>(space) {
-                Some(_) => taken += 1,
-                None => break,
+        let mut left = limit;
+        while left > 0 {
+            if !self.step_at_once::<_, CALM>(space, &mut Nobody) {
+                break;
             }
+            left -= 1;
         }
-        taken
+        limit - left
     }
 
     /// Takes calm steps that are carried out at once, at most so many less one, and one step more. Gives how many steps

@@ -1,9 +1,9 @@
 //! The board.
 
-ghost use Rattle.std.specs.Prelude.{◌≡◌, ◌+◌, ◌^◌, ◌<◌, ◌≤◌, [], length, replicate, slice_range, true, All, IfNone, IfOk};
-ghost use Rattle.std.specs.Prelude.{IfSome};
+ghost use Rattle.std.specs.Prelude.{◌≡◌, ◌+◌, ◌^◌, ◌<◌, ◌≤◌, [], length, replicate, slice_range, true, false};
+ghost use Rattle.std.specs.Prelude.{All, IfOk};
 ghost use Rattle.mb_instr.specs.Registers.{plain_of};
-ghost use Rattle.mb_short.specs.Changed.{Differ};
+ghost use Rattle.mb_short.specs.Changed.{Follows};
 ghost use Rattle.mb_model.specs.Keeping.{rule_a};
 ghost use Rattle.mb_model.specs.Seen.{seen_of};
 ghost use Rattle.mb_model.specs.Status.{space_of};
@@ -33,7 +33,7 @@ use mb_outside::Memory;
 use mb_port::Space;
 use mb_script::Script;
 use mb_srec::{Chunk, put_chunks};
-use mb_step::{Changed, Decoder, Processor, step_at_once, step_by_row, step_in_place};
+use mb_step::{Decoder, Follower, Processor, step_at_once, step_by_row, step_in_place};
 use mb_walk::Ram;
 use std::alloc::Global;
 use std::marker::Model;
@@ -189,20 +189,25 @@ impl Core {
     }
 
     /// A step of a calm machine, which is not counted, where its instruction is carried out at once: then the answer is
-    /// what it may have changed. Else nothing has changed. `space` is that of the processor's accesses.
+    /// true, and the follower was told what it changed. Else nothing has changed. `space` is that of the processor's
+    /// accesses.
     #[inline(always)]
-    pub(crate) fn step_at_once<const COPY: usize>(&mut self, space: Space) -> Option<Changed>
+    pub(crate) fn step_at_once<F: Follower, const COPY: usize>(
+        &mut self,
+        space: Space,
+        follower: &mut F,
+    ) -> bool
         requires calm { IsCalm self.old }
         requires space { space ≡ space_of self.old.cpu }
-        ensures means { IfSome result (λ changed. (Finish.Went, self.new) ≡ user_step self.old) }
-        ensures differ { IfSome result (λ changed.
-            Differ changed (plain_of self.old.cpu.regs) (plain_of self.new.cpu.regs)) }
-        ensures undone { IfNone result (self.new ≡ self.old) }
+        ensures means { result ≡ true → (Finish.Went, self.new) ≡ user_step self.old }
+        ensures follows { Follows F.follows follower.old (plain_of self.old.cpu.regs)
+            → Follows F.follows follower.new (plain_of self.new.cpu.regs) }
+        ensures undone { result ≡ false → self.new ≡ self.old }
         ensures calm { IsCalm self.new }
         ensures space { space_of self.new.cpu ≡ space_of self.old.cpu }
         ensures ram { length self.new.world.ram ≡ length self.old.world.ram }
     {
-        step_at_once::<_, COPY>(&self.decoder, space, &mut self.cpu, &mut self.bus)
+        step_at_once::<_, _, COPY>(&self.decoder, space, &mut self.cpu, &mut self.bus, follower)
     }
 
     /// One step at which nothing arrives, and which is not counted, by no short form.

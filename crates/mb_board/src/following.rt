@@ -1,12 +1,11 @@
 //! What registers spell once few of them have changed.
 
-ghost use Rattle.std.specs.Prelude.{◌≡◌, ◌+◌, ◌-◌, ◌*◌, ◌%◌, ◌^◌, ◌<◌, ℕ, List};
-ghost use Rattle.mb_short.specs.Changed.{AgreeBut, Differ};
+ghost use Rattle.std.specs.Prelude.{◌≡◌, ◌+◌, ◌-◌, ◌*◌, ◌%◌, ◌^◌, ◌<◌};
 ghost use Rattle.mb_board.specs.Spelling.{flow_of, spelled_in_parts, without_flow, Spell};
 
 use crate::spelling::{fits, spelling};
 use mb_instr::Plain;
-use mb_step::Changed;
+use mb_step::Follower;
 
 /// What D0 to D7 and A0 to A7 count in a spelling, modulo 2^64: D0 stands before seventeen others.
 const PLACES: [u64; 16] = [
@@ -47,26 +46,62 @@ fn with_digit(sum: u64, place: u64, old: u32, new: u32) -> u64
     sum.wrapping_add(place.wrapping_mul(u64::from(new).wrapping_sub(u64::from(old))))
 }
 
-/// The sum once a data register has become another.
-#[inline(always)]
-fn with_data(register: u8, sum: u64, before: &Plain, now: &Plain) -> u64
-    requires { AgreeBut register before.now.d now.now.d }
-    ensures { (a : List ℕ) → (behind : ℕ) → sum ≡ spelled_in_parts before.now.d a behind
-        → result ≡ spelled_in_parts now.now.d a behind }
-{
-    let n = register as usize;
-    with_digit(sum, place_of(register), before.d[n], now.d[n])
+/// What D0 to D7 and A0 to A7 spell, with two zeros behind them, modulo 2^64.
+#[derive(Drop)]
+pub(crate) struct Digits {
+    sum: u64,
 }
 
-/// The sum once an address register has become another.
-#[inline(always)]
-fn with_address(register: u8, sum: u64, before: &Plain, now: &Plain) -> u64
-    requires { AgreeBut register before.now.a now.now.a }
-    ensures { (d : List ℕ) → (behind : ℕ) → sum ≡ spelled_in_parts d before.now.a behind
-        → result ≡ spelled_in_parts d now.now.a behind }
-{
-    let n = register as usize;
-    with_digit(sum, place_of(8 + register), before.a[n], now.a[n])
+impl Follower for Digits {
+    ghost follows = { λ digits d a. digits.sum ≡ spelled_in_parts d a 0 };
+
+    #[inline(always)]
+    fn data(&mut self, register: u8, before: u32, now: &Plain) {
+        self.sum = with_digit(
+            self.sum,
+            place_of(register),
+            before,
+            now.d[register as usize],
+        );
+    }
+
+    #[inline(always)]
+    fn address(&mut self, register: u8, before: u32, now: &Plain) {
+        self.sum = with_digit(
+            self.sum,
+            place_of(8 + register),
+            before,
+            now.a[register as usize],
+        );
+    }
+
+    #[inline(always)]
+    fn all(&mut self, now: &Plain) {
+        *self = Digits::of(spelling(now), now);
+    }
+}
+
+impl Digits {
+    /// Those of registers that spell this.
+    #[inline(always)]
+    pub(crate) fn of(spelled: u64, registers: &Plain) -> Digits
+        requires { Spell registers.now spelled }
+        ensures { result.sum ≡ without_flow registers.now }
+    {
+        Digits {
+            sum: spelled.wrapping_sub(flow_of(registers)),
+        }
+    }
+
+    /// What the registers spell that it follows.
+    #[inline(always)]
+    pub(crate) fn spelling(&self, registers: &Plain) -> u64
+        requires { self.now.sum ≡ without_flow registers.now }
+        ensures { Spell registers.now result }
+    {
+        fits(registers);
+        self.sum.wrapping_add(flow_of(registers))
+    }
 }
 
 /// What PC and the condition codes spell.
@@ -76,64 +111,4 @@ fn flow_of(registers: &Plain) -> u64
     ensures few { result < 2 ^ 40 }
 {
     u64::from(registers.pc) * 31 + u64::from(registers.ccr)
-}
-
-/// What registers spell, of which those before PC spell `sum` with two zeros behind them.
-#[inline(always)]
-pub(crate) fn with_flow(sum: u64, registers: &Plain) -> u64
-    requires { sum ≡ without_flow registers.now }
-    ensures { Spell registers.now result }
-{
-    fits(registers);
-    sum.wrapping_add(flow_of(registers))
-}
-
-/// What those before PC spell, with two zeros behind them, of registers that spell this.
-#[inline(always)]
-pub(crate) fn without_flow(spelled: u64, registers: &Plain) -> u64
-    requires { Spell registers.now spelled }
-    ensures { result ≡ without_flow registers.now }
-{
-    spelled.wrapping_sub(flow_of(registers))
-}
-
-/// PC and the condition codes become these.
-#[inline(always)]
-pub(crate) fn set_flow(registers: &mut Plain, now: &Plain)
-    ensures { registers.new ≡ record registers.old { pc = now.now.pc; ccr = now.now.ccr } }
-{
-    registers.pc = now.pc;
-    registers.ccr = now.ccr;
-}
-
-/// The registers before PC become these, of which no more differs than this, and the sum becomes what they spell.
-#[inline(always)]
-pub(crate) fn follow(changed: Changed, sum: &mut u64, registers: &mut Plain, now: &Plain)
-    requires differ { Differ changed registers.old now.now }
-    requires sum { sum.old ≡ without_flow registers.old }
-    ensures d { registers.new.d ≡ now.now.d }
-    ensures a { registers.new.a ≡ now.now.a }
-    ensures sum { sum.new ≡ without_flow now.now }
-{
-    match changed {
-        Changed::Nothing => {}
-        Changed::Data(n) => {
-            *sum = with_data(n, *sum, registers, now);
-            registers.d[n as usize] = now.d[n as usize];
-        }
-        Changed::Address(n) => {
-            *sum = with_address(n, *sum, registers, now);
-            registers.a[n as usize] = now.a[n as usize];
-        }
-        Changed::Both { data, address } => {
-            let counted = with_data(data, *sum, registers, now);
-            *sum = with_address(address, counted, registers, now);
-            registers.d[data as usize] = now.d[data as usize];
-            registers.a[address as usize] = now.a[address as usize];
-        }
-        Changed::Any => {
-            *sum = without_flow(spelling(now), now);
-            *registers = *now;
-        }
-    }
 }

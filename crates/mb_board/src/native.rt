@@ -1,14 +1,21 @@
 //! What a board counts of its runs in user mode.
 
 ghost use Rattle.std.specs.Prelude.{◌≡◌, ◌+◌, ◌^◌, ◌<◌};
+ghost use Rattle.mb_instr.specs.declared.registers.Plain.{Plain};
 ghost use Rattle.def_runs.specs.Marks.{with_spelled};
-ghost use Rattle.def_runs.specs.Native.{nothing_counted, with_exception};
-ghost use Rattle.mb_board.specs.Spelling.{IsRetired};
+ghost use Rattle.def_runs.specs.Native.{NativeState, nothing_counted, with_exception, with_retired};
+ghost use Rattle.mb_board.specs.Spelling.{Begins, IsRetired, Spell};
 
 use std::marker::Model;
 
 /// 31 to the 18, modulo 2^64: a trail moves up by so much for the eighteen numbers of registers.
 const EIGHTEEN_PLACES: u64 = 0xACA1_9D5E_CDAA_61C1;
+
+/// Twice so many places.
+const THIRTY_SIX_PLACES: u64 = 0xF702_D5B1_13A7_D381;
+
+/// What eighteen places are to be multiplied by to become 1.
+const EIGHTEEN_PLACES_BACK: u64 = 0xA148_4A23_F44C_AE41;
 
 /// What a board counts: its steps, its exits, and the trail of its steps. [`crate::Board::run`] alone raises the three
 /// numbers.
@@ -36,6 +43,18 @@ fn with_spelled(trail: u64, spelling: u64) -> u64
     trail.wrapping_mul(EIGHTEEN_PLACES).wrapping_add(spelling)
 }
 
+/// The trail behind a step that ends with registers that spell this, where that before it has those at its beginning:
+/// then it has those at its end, at which the next step begins.
+#[inline(always)]
+pub(crate) fn entered(trail: u64, end: u64) -> u64
+    ensures { (p q : Plain) → (native : NativeState) → Begins p native trail → Spell q end
+        → Begins q (with_retired p q native) result }
+{
+    trail
+        .wrapping_mul(THIRTY_SIX_PLACES)
+        .wrapping_add(end.wrapping_mul(EIGHTEEN_PLACES + 1))
+}
+
 impl Native {
     /// Nothing is counted yet.
     pub fn new() -> Native
@@ -45,18 +64,6 @@ impl Native {
             retired: 0,
             exceptions: 0,
             trail: 0,
-        }
-    }
-
-    /// The same numbers.
-    #[inline(always)]
-    pub(crate) fn copied(&self) -> Native
-        ensures { result ≡ self.now }
-    {
-        Native {
-            retired: self.retired,
-            exceptions: self.exceptions,
-            trail: self.trail,
         }
     }
 
@@ -90,6 +97,28 @@ impl Native {
     {
         self.retired += 1;
         self.trail = with_spelled(with_spelled(self.trail, beginning), end);
+    }
+
+    /// The trail with the registers that spell this, at which the next step begins.
+    #[inline(always)]
+    pub(crate) fn begun(&self, beginning: u64) -> u64
+        ensures { (p : Plain) → Spell p beginning → Begins p self.now result }
+    {
+        with_spelled(self.trail, beginning)
+    }
+
+    /// So many steps were carried out. `begun` is the trail with the registers at which the next step begins, and these
+    /// spell `beginning`.
+    #[inline(always)]
+    pub(crate) fn retire_all(&mut self, steps: u32, begun: u64, beginning: u64)
+        requires { self.old.retired + steps < 2 ^ 64 }
+        ensures { (p : Plain) → (after : NativeState) → Begins p after begun → Spell p beginning
+            → after.retired ≡ self.old.retired + steps → after.exceptions ≡ self.old.exceptions → self.new ≡ after }
+    {
+        self.retired += u64::from(steps);
+        self.trail = begun
+            .wrapping_sub(beginning)
+            .wrapping_mul(EIGHTEEN_PLACES_BACK);
     }
 
     /// A step entered an exception, by which a run is left.

@@ -1,18 +1,18 @@
 //! Runs in user mode, for a monitor.
 
-ghost use Rattle.std.specs.Prelude.{◌≡◌, ◌≢◌, ◌+◌, ◌-◌, ◌^◌, ◌<◌, ◌≤◌, length, true, false};
+ghost use Rattle.std.specs.Prelude.{◌≡◌, ◌+◌, ◌-◌, ◌^◌, ◌<◌, ◌≤◌, length, true, false};
 ghost use Rattle.mb_instr.specs.Registers.{is_supervisor, plain_of};
 ghost use Rattle.mb_model.specs.Status.{space_of};
-ghost use Rattle.def_runs.specs.declared.RunEnd.TheVariants.{Counted};
-ghost use Rattle.def_runs.specs.Native.{EndsBy, about_to_run, ended_by, ran_by, user_run, user_step, with_step};
+ghost use Rattle.def_runs.specs.Native.{EndsBy, NativeState, about_to_run, ended_by, ran_by, user_run, user_step};
+ghost use Rattle.def_runs.specs.Native.{with_retired, with_step};
 ghost use Rattle.mb_board.specs.Calm.{IsCalm};
 ghost use Rattle.mb_board.specs.Fits.{Continues, FitsAlong};
-ghost use Rattle.mb_board.specs.Spelling.{Follow, Spell};
+ghost use Rattle.mb_board.specs.Spelling.{Begins, Leads, Spell, without_flow};
 ghost use Rattle.mb_board.specs.State.{ran_to, run_from};
 
 use crate::board::{Board, Core, NATIVE};
-use crate::following::{follow, set_flow, with_flow, without_flow};
-use crate::native::Native;
+use crate::following::Digits;
+use crate::native::{Native, entered};
 use crate::spelling::spelling;
 use def_processor::Finish;
 use def_runs::RunEnd;
@@ -53,98 +53,68 @@ impl Core {
         }
     }
 
-    /// One more step of a run of a calm machine in user mode, where its instruction is carried out at once: then it is
-    /// counted, and the answer is true. Else nothing has changed. `registers`, `sum` and `spelled` follow the machine.
+    /// One more step of a run of a calm machine in user mode, where its instruction is carried out at once: then the
+    /// answer is true, and the trail has its registers. Else nothing has changed.
     #[inline(always)]
-    fn run_on_at_once(
-        &mut self,
-        native: &mut Native,
-        registers: &mut Plain,
-        sum: &mut u64,
-        spelled: &mut u64,
-    ) -> bool
+    fn run_on_at_once(&mut self, digits: &mut Digits, trail: &mut u64) -> bool
         requires calm { IsCalm self.old }
         requires space { Space.User ≡ space_of self.old.cpu }
-        requires retired { native.old.retired + 1 < 2 ^ 64 }
-        requires follow { Follow (plain_of self.old.cpu.regs) registers.old sum.old spelled.old }
-        ensures means { result ≡ true
-            → record { end = Counted; machine = self.new; native = native.new; before = plain_of self.old.cpu.regs }
-            ≡ ran_by (user_step self.old) (about_to_run self.old native.old (plain_of self.old.cpu.regs)) }
+        requires digits { digits.old.sum ≡ without_flow (plain_of self.old.cpu.regs) }
+        ensures means { result ≡ true → (Finish.Went, self.new) ≡ user_step self.old }
+        ensures trail { result ≡ true → (native : NativeState) → Begins (plain_of self.old.cpu.regs) native trail.old
+            → Begins (plain_of self.new.cpu.regs)
+            (with_retired (plain_of self.old.cpu.regs) (plain_of self.new.cpu.regs) native) trail.new }
         ensures undone { result ≡ false → self.new ≡ self.old }
-        ensures uncounted { result ≡ false → native.new ≡ native.old }
+        ensures same { result ≡ false → trail.new ≡ trail.old }
         ensures calm { IsCalm self.new }
         ensures space { space_of self.new.cpu ≡ space_of self.old.cpu }
-        ensures follow { Follow (plain_of self.new.cpu.regs) registers.new sum.new spelled.new }
+        ensures digits { digits.new.sum ≡ without_flow (plain_of self.new.cpu.regs) }
         ensures ram { length self.new.world.ram ≡ length self.old.world.ram }
     {
-        let Some(changed) = self.step_at_once::<NATIVE>(Space::User) else {
+        if !self.step_at_once::<_, NATIVE>(Space::User, digits) {
             return false;
-        };
-        let now = self.cpu.plain();
-        follow(changed, sum, registers, now);
-        let beginning = *spelled;
-        *spelled = with_flow(*sum, now);
-        native.retire(beginning, *spelled);
+        }
+        *trail = entered(*trail, digits.spelling(self.cpu.plain()));
         true
     }
 
-    /// Takes calm steps of a run in user mode that are carried out at once, at most so many, and counts them. Gives how
-    /// many they are. `registers`, `sum` and `spelled` follow the machine.
+    /// Takes calm steps of a run in user mode that are carried out at once, at most so many. Gives how many they are.
     #[inline(always)]
-    fn run_at_once_for(
-        &mut self,
-        limit: u32,
-        native: &mut Native,
-        registers: &mut Plain,
-        sum: &mut u64,
-        spelled: &mut u64,
-    ) -> u32
+    fn run_at_once_for(&mut self, limit: u32, digits: &mut Digits, trail: &mut u64) -> u32
         requires calm { IsCalm self.old }
         requires space { Space.User ≡ space_of self.old.cpu }
+        requires digits { digits.old.sum ≡ without_flow (plain_of self.old.cpu.regs) }
+        ensures within { result ≤ limit }
+        ensures means { (native : NativeState) → Begins (plain_of self.old.cpu.regs) native trail.old
+            → Leads limit result self.old self.new native trail.new }
+        ensures digits { digits.new.sum ≡ without_flow (plain_of self.new.cpu.regs) }
+        ensures ram { length self.new.world.ram ≡ length self.old.world.ram }
+    {
+        let mut left = limit;
+        while left > 0 {
+            if !self.run_on_at_once(digits, trail) {
+                break;
+            }
+            left -= 1;
+        }
+        limit - left
+    }
+
+    /// Takes calm steps of a run in user mode that are carried out at once, at most so many, and counts them. Gives how
+    /// many they are. The registers at their beginning spell `spelled`, which becomes what those at their end do.
+    ///
+    /// What the steps change is apart from what is counted, and need not stand in memory.
+    #[inline(always)]
+    fn run_calmly(&mut self, limit: u32, native: &mut Native, spelled: &mut u64) -> u32
         requires retired { native.old.retired + limit < 2 ^ 64 }
-        requires follow { Follow (plain_of self.old.cpu.regs) registers.old sum.old spelled.old }
+        requires spelled { Spell (plain_of self.old.cpu.regs) spelled.old }
         ensures within { result ≤ limit }
         ensures means { (n : _) → limit < n
             → Continues n (about_to_run self.old native.old (plain_of self.old.cpu.regs))
             (n - result) (about_to_run self.new native.new (plain_of self.new.cpu.regs)) }
         ensures retired { native.new.retired ≡ native.old.retired + result }
         ensures exceptions { native.new.exceptions ≡ native.old.exceptions }
-        ensures follow { Follow (plain_of self.new.cpu.regs) registers.new sum.new spelled.new }
-        ensures ram { length self.new.world.ram ≡ length self.old.world.ram }
-    {
-        let mut taken = 0;
-        while taken < limit {
-            if !self.run_on_at_once(native, registers, sum, spelled) {
-                break;
-            }
-            taken += 1;
-        }
-        taken
-    }
-
-    /// Takes calm steps of a run in user mode that are carried out at once, at most so many, and counts them. Gives how
-    /// many they are. `before` has the registers at their beginning, which spell `spelled`; both become those at their
-    /// end.
-    ///
-    /// The steps change copies of what is counted, which need not stand in memory.
-    #[inline(always)]
-    fn run_calmly(
-        &mut self,
-        limit: u32,
-        native: &mut Native,
-        before: &mut Plain,
-        spelled: &mut u64,
-    ) -> u32
-        requires retired { native.old.retired + limit < 2 ^ 64 }
-        requires before { before.old ≡ plain_of self.old.cpu.regs }
-        requires spelled { Spell before.old spelled.old }
-        ensures within { result ≤ limit }
-        ensures means { (n : _) → limit < n → Continues n (about_to_run self.old native.old before.old)
-            (n - result) (about_to_run self.new native.new before.new) }
-        ensures retired { native.new.retired ≡ native.old.retired + result }
-        ensures exceptions { native.new.exceptions ≡ native.old.exceptions }
-        ensures before { before.new ≡ plain_of self.new.cpu.regs }
-        ensures spelled { Spell before.new spelled.new }
+        ensures spelled { Spell (plain_of self.new.cpu.regs) spelled.new }
         ensures ram { length self.new.world.ram ≡ length self.old.world.ram }
     {
         if !self.is_calm() {
@@ -153,52 +123,28 @@ impl Core {
         let Space::User = self.cpu.space() else {
             return 0;
         };
-        let mut counted = native.copied();
-        let mut sum = without_flow(*spelled, before);
-        let mut at_end = *spelled;
-        let taken = self.run_at_once_for(limit, &mut counted, before, &mut sum, &mut at_end);
-        set_flow(before, self.cpu.plain());
-        *spelled = at_end;
-        *native = counted;
+        let mut digits = Digits::of(*spelled, self.cpu.plain());
+        let mut trail = native.begun(*spelled);
+        let taken = self.run_at_once_for(limit, &mut digits, &mut trail);
+        *spelled = digits.spelling(self.cpu.plain());
+        native.retire_all(taken, trail, *spelled);
         taken
     }
 
-    /// One more step of a run in user mode, which is counted, and how the run ends with it. `before` has the registers
-    /// at its beginning, which spell `spelled`; where the run goes on, both become those at its end.
+    /// One more step of a run in user mode, which is counted, and how the run ends with it. The registers at its
+    /// beginning, which `before` becomes, spell `spelled`, and that becomes what those at its end do.
     fn run_on(&mut self, native: &mut Native, before: &mut Plain, spelled: &mut u64) -> RunEnd
         requires retired { native.old.retired + 1 < 2 ^ 64 }
         requires exceptions { native.old.exceptions + 1 < 2 ^ 64 }
-        requires before { before.old ≡ plain_of self.old.cpu.regs }
-        requires spelled { Spell before.old spelled.old }
-        ensures means { record { end = result; machine = self.new; native = native.new; before = before.old }
+        requires spelled { Spell (plain_of self.old.cpu.regs) spelled.old }
+        ensures means { record { end = result; machine = self.new; native = native.new; before = before.new }
             ≡ ran_by (user_step self.old) (about_to_run self.old native.old before.old) }
-        ensures on { result ≡ Counted → before.new ≡ plain_of self.new.cpu.regs }
-        ensures off { result ≢ Counted → before.new ≡ before.old }
         ensures spelled { Spell (plain_of self.new.cpu.regs) spelled.new }
         ensures ram { length self.new.world.ram ≡ length self.old.world.ram }
     {
+        *before = *self.cpu.plain();
         let finish = self.step_apart();
         self.count(finish, before, spelled, native);
-        let end = self.ended_by(finish);
-        if let RunEnd::Counted = end {
-            *before = *self.cpu.plain();
-        }
-        end
-    }
-
-    /// The last step of a run in user mode, which is counted, and how the run ends with it. `before` has the registers
-    /// at its beginning, which spell `spelled`.
-    fn run_last(&mut self, native: &mut Native, before: &Plain, mut spelled: u64) -> RunEnd
-        requires retired { native.old.retired + 1 < 2 ^ 64 }
-        requires exceptions { native.old.exceptions + 1 < 2 ^ 64 }
-        requires before { before.now ≡ plain_of self.old.cpu.regs }
-        requires spelled { Spell before.now spelled }
-        ensures means { record { end = result; machine = self.new; native = native.new; before = before.now }
-            ≡ ran_by (user_step self.old) (about_to_run self.old native.old before.now) }
-        ensures ram { length self.new.world.ram ≡ length self.old.world.ram }
-    {
-        let finish = self.step_apart();
-        self.count(finish, before, &mut spelled, native);
         self.ended_by(finish)
     }
 
@@ -215,17 +161,16 @@ impl Core {
         if limit == 0 {
             return RunEnd::Counted;
         }
-        *before = *self.cpu.plain();
-        let mut spelled = spelling(before);
+        let mut spelled = spelling(self.cpu.plain());
         let mut left = limit - 1;
         while left > 0 {
-            left -= self.run_calmly(left - 1, native, before, &mut spelled);
+            left -= self.run_calmly(left - 1, native, &mut spelled);
             match self.run_on(native, before, &mut spelled) {
                 RunEnd::Counted => left -= 1,
                 end => return end,
             }
         }
-        self.run_last(native, before, spelled)
+        self.run_on(native, before, &mut spelled)
     }
 }
 

@@ -5,3 +5,4 @@ pub mod Moves
 pub mod Goings
 pub mod Flows
 pub mod Changes
+pub mod Followings

@@ -8,6 +8,7 @@ use Rattle.mb_table.specs.declared.forms.Place.TheVariants as place
 use Rattle.mb_table.specs.declared.forms.Taking.{Taking}
 use Rattle.mb_table.specs.declared.forms.Taking.TheVariants as taking
 use Rattle.mb_short.specs.declared.changed.Changed.{Changed}
+use Rattle.mb_short.specs.declared.following.Values.{Values}
 use Rattle.mb_short.specs.declared.changed.Changed.TheVariants.{Nothing, Data, Address, Both, Any}
 
 -- what an operand that is taken may change
@@ -91,3 +92,23 @@ Differ (Data n) p q = AgreeBut n p.d q.d × (q.a ≡ p.a)
 Differ (Address m) p q = (q.d ≡ p.d) × AgreeBut m p.a q.a
 Differ (Both n m) p q = AgreeBut n p.d q.d × AgreeBut m p.a q.a
 Differ Any p q = ⊤
+
+-- What follows registers has followed these, by what it follows of D0 to D7 and A0 to A7.
+abbrev pub Follows : {S : Type 0} → (S → List ℕ → List ℕ → Type 0) → S → Plain → Type 0
+Follows by s p = by s p.d p.a
+
+-- These are the values of the registers that may change.
+abbrev pub Remembers : Changed → Plain → Values → Type 0
+Remembers Nothing p v = ⊤
+Remembers (Data n) p v = slice_index_or p.d n 0 ≡ v.data
+Remembers (Address m) p v = slice_index_or p.a m 0 ≡ v.address
+Remembers (Both n m) p v = (slice_index_or p.d n 0 ≡ v.data) × (slice_index_or p.a m 0 ≡ v.address)
+Remembers Any p v = ⊤
+
+-- There are such registers.
+abbrev pub IsWithin : Changed → Type 0
+IsWithin Nothing = ⊤
+IsWithin (Data n) = n < 8
+IsWithin (Address m) = m < 8
+IsWithin (Both n m) = (n < 8) × (m < 8)
+IsWithin Any = ⊤

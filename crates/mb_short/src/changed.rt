@@ -7,7 +7,7 @@ use mb_table::{Place, Short, Taking};
 
 /// What an instruction in short may change of D0 to D7 and A0 to A7.
 #[derive(Clone, Copy)]
-pub enum Changed {
+pub(crate) enum Changed {
     Nothing,
     /// This data register alone.
     Data(u8),
@@ -67,7 +67,7 @@ fn taken_in(taking: Taking) -> Changed
 
 /// What the instruction of a short form may change.
 #[inline(always)]
-pub fn changed_by(short: &Short) -> Changed
+pub(crate) fn changed_by(short: &Short) -> Changed
     ensures { result ≡ changed_of short.now }
 {
     match *short {

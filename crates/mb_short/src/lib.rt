@@ -11,6 +11,7 @@ mod branches;
 mod changed;
 mod changing;
 mod copying;
+mod following;
 mod performing;
 mod places;
 mod putting;
@@ -19,5 +20,5 @@ mod stack;
 mod taking;
 mod updating;
 
-pub use changed::{Changed, changed_by};
+pub use following::{Follower, Nobody};
 pub use performing::perform_short;

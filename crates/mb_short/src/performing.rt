@@ -4,15 +4,17 @@ ghost use Rattle.std.specs.Prelude.{◌≡◌, ◌%◌, ◌^◌, ◌<◌, true, 
 ghost use Rattle.mb_instr.specs.Codes.{IsInstr};
 ghost use Rattle.mb_table.specs.Short.{meaning, meaning_with};
 ghost use Rattle.mb_short.specs.Always.{asks_nothing, is_of_registers_by_parts};
-ghost use Rattle.mb_short.specs.Changed.{changed_of, Differ};
+ghost use Rattle.mb_short.specs.Changed.{changed_of, Differ, Follows};
 ghost use Rattle.mb_short.specs.Taken.{Comes, IsDone};
 
 use crate::addresses::load_near;
 use crate::branches::{branch, branch_far, turn};
+use crate::changed::changed_by;
 use crate::changing::change_register;
 use crate::copying::copy_near;
+use crate::following::{Follower, follow, values_of};
 use crate::putting::{put_memory, put_near};
-use crate::registers::perform_in_registers;
+use crate::registers::{perform_in_address, perform_in_data};
 use crate::stack::{call_far, call_near, link, return_from, unlink};
 use crate::taking::{take_memory, take_near, take_register};
 use crate::updating::{update_memory, update_near};
@@ -97,25 +99,54 @@ fn perform_rarer<P: Port>(short: &Short, space: Space, plain: &mut Plain, port: 
     }
 }
 
-/// Carries out the instruction of a short form that stands at PC, where that is done at once: then the answer is
-/// whether it changed the flow of control. Else nothing has changed.
-///
-/// A `COPY` is a copy of its own of the most frequent forms: one that a single place calls is compiled into it.
-#[rattlefmt::skip]
-#[tactic(auto, using(crate::proofs::Goings::endings))]
+/// The same, of which the follower is told.
 #[inline(always)]
-pub fn perform_short<P: Port, const COPY: usize>(
+fn perform_followed<P: Port, F: Follower>(
     short: &Short,
     space: Space,
     plain: &mut Plain,
     port: &mut P,
+    follower: &mut F,
 ) -> Option<bool>
     requires even { plain.old.pc % 2 ≡ 0 }
     requires valid { IfSome (meaning short.now) IsInstr }
     requires valid_with { (word : _) → word < 2 ^ 16 → IfSome (meaning_with word short.now) IsInstr }
     ensures done { IfSome result (λ flow.
         IsDone P.bus short.now space plain.old (P.world port.old) flow plain.new (P.world port.new)) }
-    ensures differ { IfSome result (λ flow. Differ (changed_of short.now) plain.old plain.new) }
+    ensures follows { Follows F.follows follower.old plain.old → Follows F.follows follower.new plain.new }
+    ensures undone { IfNone result (plain.new ≡ plain.old) }
+    ensures same { IfNone result (P.world port.new ≡ P.world port.old) }
+    ensures always { is_of_registers_by_parts short.now ≡ true → IsSome result }
+    ensures still { P.still (P.world port.new) ≡ P.still (P.world port.old) }
+    ensures rest { P.rest port.new ≡ P.rest port.old }
+{
+    let changed = changed_by(short);
+    let before = values_of(changed, plain);
+    let flow = perform_rarer(short, space, plain, port)?;
+    follow(changed, before, plain, follower);
+    Some(flow)
+}
+
+/// Carries out the instruction of a short form that stands at PC, where that is done at once: then the answer is
+/// whether it changed the flow of control, and the follower was told what it changed. Else nothing has changed.
+///
+/// A `COPY` is a copy of its own of the most frequent forms: one that a single place calls is compiled into it.
+#[rattlefmt::skip]
+#[tactic(auto, using(crate::proofs::Goings::endings, crate::proofs::Followings::followings))]
+#[inline(always)]
+pub fn perform_short<P: Port, F: Follower, const COPY: usize>(
+    short: &Short,
+    space: Space,
+    plain: &mut Plain,
+    port: &mut P,
+    follower: &mut F,
+) -> Option<bool>
+    requires even { plain.old.pc % 2 ≡ 0 }
+    requires valid { IfSome (meaning short.now) IsInstr }
+    requires valid_with { (word : _) → word < 2 ^ 16 → IfSome (meaning_with word short.now) IsInstr }
+    ensures done { IfSome result (λ flow.
+        IsDone P.bus short.now space plain.old (P.world port.old) flow plain.new (P.world port.new)) }
+    ensures follows { Follows F.follows follower.old plain.old → Follows F.follows follower.new plain.new }
     ensures undone { IfNone result (plain.new ≡ plain.old) }
     ensures same { IfNone result (P.world port.new ≡ P.world port.old) }
     ensures always { asks_nothing short.now ≡ true → IsSome result }
@@ -124,36 +155,57 @@ pub fn perform_short<P: Port, const COPY: usize>(
 {
     match *short {
         Short::Unknown | Short::Other => None,
-        Short::MoveQuick { .. }
-        | Short::CopyLong { .. }
-        | Short::AddLong { .. }
-        | Short::SubtractLong { .. }
-        | Short::AndLong { .. }
-        | Short::OrLong { .. }
-        | Short::ExclusiveOrLong { .. }
-        | Short::CompareLong { .. }
-        | Short::MultiplyUnsigned { .. }
-        | Short::MultiplySigned { .. }
-        | Short::ShiftRightLong { .. }
-        | Short::AddQuickLong { .. }
-        | Short::SubtractQuickLong { .. }
-        | Short::TestLong { .. }
-        | Short::Swap { .. }
-        | Short::ExtendWord { .. }
-        | Short::RaiseAddress { .. }
-        | Short::LowerAddress { .. } => perform_in_registers::<_, COPY>(short, space, plain, port),
+        Short::MoveQuick { register, .. }
+        | Short::CopyLong { register, .. }
+        | Short::AddLong { register, .. }
+        | Short::SubtractLong { register, .. }
+        | Short::AndLong { register, .. }
+        | Short::OrLong { register, .. }
+        | Short::ExclusiveOrLong { register, .. }
+        | Short::CompareLong { register, .. }
+        | Short::MultiplyUnsigned { register, .. }
+        | Short::MultiplySigned { register, .. }
+        | Short::ShiftRightLong { register, .. }
+        | Short::AddQuickLong { register, .. }
+        | Short::SubtractQuickLong { register, .. }
+        | Short::TestLong { register }
+        | Short::Swap { register }
+        | Short::ExtendWord { register } => {
+            let before = plain.d[register as usize];
+            let flow = perform_in_data::<_, COPY>(short, space, plain, port)?;
+            follower.data(register, before, plain);
+            Some(flow)
+        }
+        Short::RaiseAddress { register, .. } | Short::LowerAddress { register, .. } => {
+            let before = plain.a[register as usize];
+            let flow = perform_in_address(short, space, plain, port)?;
+            follower.address(register, before, plain);
+            Some(flow)
+        }
         Short::LoadLong { register, base } => {
             let word = second_word(space, plain, port)?;
-            take_near(Taking::Move(register), Size::Long, base, word, space, plain, port)
+            let before = plain.d[register as usize];
+            let flow = take_near(Taking::Move(register), Size::Long, base, word, space, plain, port)?;
+            follower.data(register, before, plain);
+            Some(flow)
         }
         Short::StoreLong { register, base } => {
             let word = second_word(space, plain, port)?;
             put_near(Putting::Data(register), Size::Long, base, word, space, plain, port)
         }
-        Short::LoadLongUp { register, base } =>
-            take_memory(Taking::Move(register), Size::Long, Place::Up(base), space, plain, port),
-        Short::StoreLongUp { register, base } =>
-            put_memory(Putting::Data(register), Size::Long, Place::Up(base), space, plain, port),
+        Short::LoadLongUp { register, base } => {
+            let (data, address) = (plain.d[register as usize], plain.a[base as usize]);
+            let flow = take_memory(Taking::Move(register), Size::Long, Place::Up(base), space, plain, port)?;
+            follower.data(register, data, plain);
+            follower.address(base, address, plain);
+            Some(flow)
+        }
+        Short::StoreLongUp { register, base } => {
+            let before = plain.a[base as usize];
+            let flow = put_memory(Putting::Data(register), Size::Long, Place::Up(base), space, plain, port)?;
+            follower.address(base, before, plain);
+            Some(flow)
+        }
         Short::Branch { condition, displacement } => branch(condition, displacement, space, plain, port),
         Short::BranchFar { condition } => {
             let word = second_word(space, plain, port)?;
@@ -161,8 +213,11 @@ pub fn perform_short<P: Port, const COPY: usize>(
         }
         Short::Loop { condition, register } => {
             let word = second_word(space, plain, port)?;
-            Some(turn(condition, register, word, space, plain, port))
+            let before = plain.d[register as usize];
+            let flow = turn(condition, register, word, space, plain, port);
+            follower.data(register, before, plain);
+            Some(flow)
         }
-        _ => perform_rarer(short, space, plain, port),
+        _ => perform_followed(short, space, plain, port, follower),
     }
 }

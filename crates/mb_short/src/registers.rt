@@ -4,7 +4,7 @@ ghost use Rattle.std.specs.Prelude.{◌≡◌, ◌<◌, true, false, is_some, If
 ghost use Rattle.mb_instr.specs.Codes.{IsInstr};
 ghost use Rattle.def_instructions.specs.Moves.{move_flags, swap_of};
 ghost use Rattle.mb_table.specs.Short.{meaning};
-ghost use Rattle.mb_short.specs.Always.{is_of_registers};
+ghost use Rattle.mb_short.specs.Always.{is_of_address, is_of_data};
 ghost use Rattle.mb_short.specs.Changed.{changed_of, Differ};
 ghost use Rattle.mb_short.specs.Moved.{moved_to};
 ghost use Rattle.mb_short.specs.Taken.{GoesBy, RowBy};
@@ -62,7 +62,7 @@ fn swap(register: u8, plain: &mut Plain)
     test(Size::Long, swapped, plain);
 }
 
-/// Carries out the row of the instruction. PC is past its word already.
+/// Carries out the row of an instruction with a data register. PC is past its word already.
 #[rattlefmt::skip]
 #[inline(always)]
 #[tactic(auto, using(crate::proofs::Moves::rows, crate::proofs::Changes::changes), unfolding(
@@ -75,7 +75,7 @@ fn carry_out<P: Port, const COPY: usize>(short: &Short, at: u32, space: Space, p
         → RowBy P.bus (meaning short.now) at space plain.old (P.world port.now) plain.new }
     ensures differ { result ≡ true → Differ (changed_of short.now) plain.old plain.new }
     ensures undone { result ≡ false → plain.new ≡ plain.old }
-    ensures always { result ≡ is_of_registers short.now }
+    ensures always { result ≡ is_of_data short.now }
 {
     match *short {
         Short::MoveQuick { register, immediate } => moveq(register, immediate, plain),
@@ -103,18 +103,14 @@ fn carry_out<P: Port, const COPY: usize>(short: &Short, at: u32, space: Space, p
             let extended = extend(Size::Word, Size::Long, plain.d[register as usize], plain.ccr);
             put_in_register(register, Size::Long, extended, plain);
         }
-        Short::RaiseAddress { register, quick, .. } =>
-            plain.a[register as usize] = plain.a[register as usize].wrapping_add(u32::from(quick)),
-        Short::LowerAddress { register, quick, .. } =>
-            plain.a[register as usize] = plain.a[register as usize].wrapping_sub(u32::from(quick)),
         _ => return false,
     }
     true
 }
 
-/// Carries out the instruction that stands at PC, where its form is one of these.
+/// Carries out the instruction that stands at PC, where its form has a name of its own for a data register.
 #[inline(always)]
-pub(crate) fn perform_in_registers<P: Port, const COPY: usize>(
+pub(crate) fn perform_in_data<P: Port, const COPY: usize>(
     short: &Short,
     space: Space,
     plain: &mut Plain,
@@ -125,11 +121,73 @@ pub(crate) fn perform_in_registers<P: Port, const COPY: usize>(
         plain.new (P.world port.now)) }
     ensures differ { IfSome result (λ flow. Differ (changed_of short.now) plain.old plain.new) }
     ensures undone { IfNone result (plain.new ≡ plain.old) }
-    ensures always { is_some result ≡ is_of_registers short.now }
+    ensures always { is_some result ≡ is_of_data short.now }
 {
     let at = plain.pc;
     plain.pc = at.wrapping_add(2);
     if carry_out::<_, COPY>(short, at, space, plain, port) {
+        Some(false)
+    } else {
+        plain.pc = at;
+        None
+    }
+}
+
+/// Carries out the row of an instruction that raises or lowers an address register. PC is past its word already.
+#[rattlefmt::skip]
+#[inline(always)]
+#[tactic(auto, using(crate::proofs::Moves::rows, crate::proofs::Changes::changes), unfolding(
+    def_instructions::specs::Arithmetic::combine_quick_of,
+    def_instructions::specs::Arithmetic::combine_either_way_of,
+))]
+fn change_address<P: Port>(
+    short: &Short,
+    at: u32,
+    space: Space,
+    plain: &mut Plain,
+    port: &P,
+) -> bool
+    requires valid { IfSome (meaning short.now) IsInstr }
+    ensures done { result ≡ true
+        → RowBy P.bus (meaning short.now) at space plain.old (P.world port.now) plain.new }
+    ensures differ { result ≡ true → Differ (changed_of short.now) plain.old plain.new }
+    ensures undone { result ≡ false → plain.new ≡ plain.old }
+    ensures always { result ≡ is_of_address short.now }
+{
+    match *short {
+        Short::RaiseAddress {
+            register,
+            quick,
+            ..
+        } => plain.a[register as usize] = plain.a[register as usize].wrapping_add(u32::from(quick)),
+        Short::LowerAddress {
+            register,
+            quick,
+            ..
+        } => plain.a[register as usize] = plain.a[register as usize].wrapping_sub(u32::from(quick)),
+        _ => return false,
+    }
+    true
+}
+
+/// Carries out the instruction that stands at PC, where its form has a name of its own for an address register.
+#[inline(always)]
+pub(crate) fn perform_in_address<P: Port>(
+    short: &Short,
+    space: Space,
+    plain: &mut Plain,
+    port: &P,
+) -> Option<bool>
+    requires { IfSome (meaning short.now) IsInstr }
+    ensures done { IfSome result (λ flow. GoesBy P.bus (meaning short.now) 1 space plain.old (P.world port.now) flow
+        plain.new (P.world port.now)) }
+    ensures differ { IfSome result (λ flow. Differ (changed_of short.now) plain.old plain.new) }
+    ensures undone { IfNone result (plain.new ≡ plain.old) }
+    ensures always { is_some result ≡ is_of_address short.now }
+{
+    let at = plain.pc;
+    plain.pc = at.wrapping_add(2);
+    if change_address(short, at, space, plain, port) {
         Some(false)
     } else {
         plain.pc = at;

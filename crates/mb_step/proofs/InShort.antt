@@ -1,5 +1,5 @@
 -- An instruction that was carried out by its short form is the step's.
-use Rattle.std.proofs.Common.{◌≡◌, ◌∙◌, ℕ, ◌<◌, ◌+◌, ◌%◌, ◌^◌, length, refl, ap, sym, subst, Bool, false, List, Option, Some, None, IfSome, Ok, inl, inr, arith}
+use Rattle.std.proofs.Common.{◌≡◌, ◌∙◌, ℕ, ◌<◌, ◌+◌, ◌%◌, ◌^◌, length, refl, ap, sym, subst, Bool, false, List, Option, Some, None, IfSome, Ok, inl, inr}
 use Rattle.mb_port.specs.Routine.{Bus, Call, run}
 use Rattle.mb_port.specs.declared.types.Space.{Space}
 use Rattle.mb_instr.specs.declared.instruction.Instr.{Instr}
@@ -19,9 +19,7 @@ use Rattle.def_processor.specs.Step.{execute_of, finish_instruction_of}
 use Rattle.mb_table.specs.declared.short.Short.{Short}
 use Rattle.mb_table.specs.FirstWords.{alone}
 use Rattle.mb_table.specs.Short.{meaning, meaning_with, IsAlone, IsWith, IsShort}
-use Rattle.mb_short.specs.declared.changed.Changed.{Changed}
-use Rattle.mb_short.specs.declared.changed.Changed.TheVariants.{Nothing, Data, Address, Both, Any}
-use Rattle.mb_short.specs.Changed.{Differ}
+use Rattle.mb_short.specs.Changed.{Follows}
 use Rattle.mb_short.specs.Taken.{Goes, GoesBy, IsDone}
 use Rattle.mb_step.specs.Fetching.{behind, found_executed}
 use Rattle.mb_step.proofs.Fetches.{is_whole, two_words}
@@ -97,37 +95,14 @@ untraced_went bus cpu value before now first short flow s t k len less right don
     (ap (λ (b : Bool). run bus (trace_if_of finish.Went b before.pc (with_registers now cpu)) t) due
     ∙ ap (λ (c : Cpu). (let r : Stepped × _ = ((finish.Went, c), t) in r)) (sym (registers_low now cpu)))
 
-differ_codes : (c : Changed) (p q : Plain) (ccr : ℕ) → Differ c p q → Differ c p (record q { ccr = ccr })
-differ_codes Nothing p q ccr h = h
-differ_codes (Data n) p q ccr h = h
-differ_codes (Address n) p q ccr h = h
-differ_codes (Both n m) p q ccr h = h
-differ_codes Any p q ccr h = tt
-
-differ_together : (c : Changed) (cpu value after : Cpu) (before now : Plain) → with_registers before cpu ≡ value
-    → with_registers (record now { ccr = now.ccr % 32 }) cpu ≡ after → length before.a ≡ 8 → length now.a ≡ 8 → before.ccr < 32
-    → Differ c before now → Differ c (plain_of value.regs) (plain_of after.regs)
-differ_together c cpu value after before now k j len eight less h =
-    let end = record now { ccr = now.ccr % 32 } in
-    let few : now.ccr % 32 < 32 = omega arith in
-    let first : before ≡ plain_of value.regs = sym (plain_again before cpu len less) ∙ ap (λ (x : Cpu). plain_of x.regs) k in
-    let second : end ≡ plain_of after.regs = sym (plain_again end cpu eight few) ∙ ap (λ (x : Cpu). plain_of x.regs) j in
-    subst (λ (p : Plain). Differ c p (plain_of after.regs)) first
-    (subst (λ (q : Plain). Differ c before q) second (differ_codes c before now (now.ccr % 32) h))
-
--- what differs of the registers apart differs of those put together
-pub differ_apart : (c : Changed) (cpu value after : Cpu) (before now : Plain) → with_registers before cpu ≡ value
-    → with_registers (record now { ccr = now.ccr % 32 }) cpu ≡ after → length before.a ≡ 8 → before.ccr < 32
-    → Differ c before now → Differ c (plain_of value.regs) (plain_of after.regs)
-differ_apart Nothing cpu value after before now k j len less h =
-    differ_together Nothing cpu value after before now k j len (ap (λ (a : List ℕ). length a) h.1 ∙ len) less h
-differ_apart (Data n) cpu value after before now k j len less h =
-    differ_together (Data n) cpu value after before now k j len (ap (λ (a : List ℕ). length a) h.1 ∙ len) less h
-differ_apart (Address n) cpu value after before now k j len less h =
-    differ_together (Address n) cpu value after before now k j len (h.1.as_many ∙ len) less h
-differ_apart (Both n m) cpu value after before now k j len less h =
-    differ_together (Both n m) cpu value after before now k j len (h.1.as_many ∙ len) less h
-differ_apart Any cpu value after before now k j len less h = tt
+-- what has followed the registers apart has followed those put together
+pub followed_apart : {S : Type 0} (by : S → List ℕ → List ℕ → Type 0) (s t : S) (cpu value after : Cpu) (before now : Plain)
+    → with_registers before cpu ≡ value → with_registers now cpu ≡ after → length before.a ≡ 8 → before.ccr < 32 → length now.a ≡ 8
+    → now.ccr < 32 → (Follows by s before → Follows by t now) → Follows by s (plain_of value.regs) → Follows by t (plain_of after.regs)
+followed_apart by s t cpu value after before now k j len less eight few told h =
+    let first : plain_of value.regs ≡ before = sym (ap (λ (x : Cpu). plain_of x.regs) k) ∙ plain_again before cpu len less in
+    let second : now ≡ plain_of after.regs = sym (plain_again now cpu eight few) ∙ ap (λ (x : Cpu). plain_of x.regs) j in
+    subst (λ (q : Plain). Follows by t q) second (told (subst (λ (p : Plain). Follows by s p) first h))
 
 -- ---- what a right form is, is in the table of instructions
 

@@ -10,7 +10,7 @@ ghost use Rattle.mb_decode.specs.Decodes.{decode_of};
 ghost use Rattle.def_instructions.specs.Attempt.{found_of, by_decoded};
 ghost use Rattle.def_processor.specs.Raise.{is_due};
 ghost use Rattle.def_processor.specs.Step.{execute_next_of};
-ghost use Rattle.mb_short.specs.Changed.{changed_of, Differ};
+ghost use Rattle.mb_short.specs.Changed.{Follows};
 ghost use Rattle.mb_table.specs.FirstWords.{alone};
 ghost use Rattle.mb_table.specs.Short.{IsShort};
 ghost use Rattle.mb_step.specs.Modes.{KeepsMode};
@@ -18,14 +18,14 @@ ghost use Rattle.mb_step.specs.Fetching.{sought_of, sought_by, word_of, behind, 
 
 use crate::decoder::Longer;
 use crate::executing::{execute, finish_done};
-use crate::processor::Processor;
+use crate::processor::{Processor, in_whole};
 use arrayvec::ArrayVec;
 use def_processor::Finish;
 use mb_decode::{Decoded, Decoding, decode_into};
 use mb_instr::vectors::{ILLEGAL, LINE_A, LINE_F, ODD_COUNTER};
 use mb_instr::{Instr, MOST_WORDS};
 use mb_port::{Port, Space};
-use mb_short::{Changed, changed_by, perform_short};
+use mb_short::{Follower, Nobody, perform_short};
 use mb_table::{FirstWords, Short, Shorts};
 
 /// How many words an instruction can have behind its first.
@@ -294,7 +294,13 @@ fn execute_short<P: Port, const COPY: usize>(
     ensures rest { P.rest port.new ≡ P.rest port.old }
 {
     let at = processor.plain.pc;
-    let flow = perform_short::<_, COPY>(short, processor.cpu.space(), &mut processor.plain, port)?;
+    let flow = perform_short::<_, _, COPY>(
+        short,
+        processor.cpu.space(),
+        &mut processor.plain,
+        port,
+        &mut Nobody,
+    )?;
     Some(finish_done(flow, at, &mut processor.plain, &mut processor.cpu, port))
 }
 
@@ -369,14 +375,15 @@ pub(crate) fn execute_by_row<P: Port>(
 }
 
 /// Carries out the instruction of a first word's short form that stands at PC, where that is done at once; no trace is
-/// due whether or not it changes the flow of control. Else nothing has changed.
+/// due whether or not it changes the flow of control. The follower is told what it changed. Else nothing has changed.
 #[inline(always)]
-fn execute_untraced<P: Port, const COPY: usize>(
+fn execute_untraced<P: Port, F: Follower, const COPY: usize>(
     first: u16,
     short: &Short,
     space: Space,
     processor: &mut Processor,
     port: &mut P,
+    follower: &mut F,
 ) -> bool
     requires even { processor.old.regs.pc % 2 ≡ 0 }
     requires short { IsShort first short.now }
@@ -386,16 +393,17 @@ fn execute_untraced<P: Port, const COPY: usize>(
         → run P.bus (found_executed processor.old (by_decoded (alone first) (behind processor.old first)))
         (P.world port.old)
         ≡ ((Finish.Went, processor.new), P.world port.new) }
-    ensures differ { result ≡ true
-        → Differ (changed_of short.now) (plain_of processor.old.regs) (plain_of processor.new.regs) }
+    ensures follows { Follows F.follows follower.old (plain_of processor.old.regs)
+        → Follows F.follows follower.new (plain_of processor.new.regs) }
     ensures undone { result ≡ false → processor.new ≡ processor.old }
     ensures same { result ≡ false → P.world port.new ≡ P.world port.old }
     ensures mode { KeepsMode processor.old processor.new }
     ensures still { P.still (P.world port.new) ≡ P.still (P.world port.old) }
     ensures rest { P.rest port.new ≡ P.rest port.old }
 {
-    match perform_short::<_, COPY>(short, space, &mut processor.plain, port) {
+    match perform_short::<_, _, COPY>(short, space, &mut processor.plain, port, follower) {
         Some(_) => {
+            let _whole = in_whole(&processor.plain);
             processor.plain.ccr %= 32;
             true
         }
@@ -404,36 +412,41 @@ fn execute_untraced<P: Port, const COPY: usize>(
 }
 
 /// Fetches the instruction that stands at PC and carries it out by its short form, where all that is done at once; no
-/// trace is due. Then the answer is what it may have changed. Else nothing has changed.
+/// trace is due. The follower is told what it changed. Else nothing has changed.
 #[inline(always)]
-pub(crate) fn execute_at_once<P: Port, const COPY: usize>(
+pub(crate) fn execute_at_once<P: Port, F: Follower, const COPY: usize>(
     shorts: &Shorts,
     space: Space,
     processor: &mut Processor,
     port: &mut P,
-) -> Option<Changed>
+    follower: &mut F,
+) -> bool
     requires space { space ≡ space_of processor.old }
     requires untraced { (flow : _) → is_due processor.old.regs.sr flow ≡ false }
-    ensures done { IfSome result (λ changed. run P.bus (execute_next_of processor.old) (P.world port.old)
-        ≡ ((Finish.Went, processor.new), P.world port.new)) }
-    ensures differ { IfSome result (λ changed.
-        Differ changed (plain_of processor.old.regs) (plain_of processor.new.regs)) }
-    ensures undone { IfNone result (processor.new ≡ processor.old) }
-    ensures same { IfNone result (P.world port.new ≡ P.world port.old) }
+    ensures done { result ≡ true → run P.bus (execute_next_of processor.old) (P.world port.old)
+        ≡ ((Finish.Went, processor.new), P.world port.new) }
+    ensures follows { Follows F.follows follower.old (plain_of processor.old.regs)
+        → Follows F.follows follower.new (plain_of processor.new.regs) }
+    ensures undone { result ≡ false → processor.new ≡ processor.old }
+    ensures same { result ≡ false → P.world port.new ≡ P.world port.old }
     ensures mode { KeepsMode processor.old processor.new }
     ensures still { P.still (P.world port.new) ≡ P.still (P.world port.old) }
     ensures rest { P.rest port.new ≡ P.rest port.old }
 {
     let at = processor.pc();
     if at % 2 == 1 {
-        return None;
+        return false;
     }
-    let first = port.quick_fetch(space, at)?;
-    let short = shorts.of(first);
-    if execute_untraced::<_, COPY>(first, short, space, processor, port) {
-        Some(changed_by(short))
-    } else {
-        None
+    match port.quick_fetch(space, at) {
+        Some(first) => execute_untraced::<_, _, COPY>(
+            first,
+            shorts.of(first),
+            space,
+            processor,
+            port,
+            follower,
+        ),
+        None => false,
     }
 }
 

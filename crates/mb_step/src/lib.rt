@@ -20,7 +20,7 @@ mod stepping;
 
 pub use decoder::Decoder;
 pub use def_processor::{Finish, StepEnd};
-pub use mb_short::Changed;
+pub use mb_short::{Follower, Nobody};
 pub use performing::perform;
 pub use processor::Processor;
 pub use raising::{access_error, unchecked};

@@ -41,7 +41,7 @@ impl Model for Processor {
 
 /// Registers as they are: A0 to A7 are eight.
 #[inline(always)]
-fn in_whole(plain: &Plain) -> &Plain
+pub(crate) fn in_whole(plain: &Plain) -> &Plain
     ensures same { result.now ≡ plain.now }
     ensures eight { length plain.now.a ≡ 8 }
 {

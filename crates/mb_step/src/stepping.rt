@@ -1,12 +1,12 @@
 //! A step.
 
-ghost use Rattle.std.specs.Prelude.{◌≡◌, ◌↔◌, ◌<◌, ◌≤◌, true, false, IfSome, IfNone};
+ghost use Rattle.std.specs.Prelude.{◌≡◌, ◌↔◌, ◌<◌, ◌≤◌, true, false};
 ghost use Rattle.mb_port.specs.Routine.{run};
 ghost use Rattle.mb_instr.specs.Registers.{plain_of};
 ghost use Rattle.mb_model.specs.Status.{space_of};
 ghost use Rattle.def_processor.specs.Raise.{by_its_end, is_due};
 ghost use Rattle.def_processor.specs.Step.{Halts, interrupt_mask, rank, step_of};
-ghost use Rattle.mb_short.specs.Changed.{Differ};
+ghost use Rattle.mb_short.specs.Changed.{Follows};
 ghost use Rattle.mb_step.specs.Modes.{KeepsMode};
 
 use crate::decoder::Decoder;
@@ -15,7 +15,7 @@ use crate::processor::Processor;
 use def_processor::{Finish, StepEnd};
 use mb_model::{Cpu, NON_MASKABLE};
 use mb_port::{Port, Space};
-use mb_short::Changed;
+use mb_short::Follower;
 
 /// How high an interrupt of a level stands beside a mask: one that is not masked is above every mask.
 #[inline(always)]
@@ -63,29 +63,30 @@ pub fn step_in_place<P: Port, const COPY: usize>(
 }
 
 /// One step as `step_in_place` takes it with no interrupt asked for, of a processor that STOP does not hold and for
-/// which no trace is due, where its instruction is carried out at once by a short form: then the answer is what it may
-/// have changed. Else nothing has changed. `space` is that of the processor's accesses.
+/// which no trace is due, where its instruction is carried out at once by a short form: then the answer is true, and
+/// the follower was told what it changed. Else nothing has changed. `space` is that of the processor's accesses.
 #[inline(always)]
-pub fn step_at_once<P: Port, const COPY: usize>(
+pub fn step_at_once<P: Port, F: Follower, const COPY: usize>(
     decoder: &Decoder,
     space: Space,
     processor: &mut Processor,
     port: &mut P,
-) -> Option<Changed>
+    follower: &mut F,
+) -> bool
     requires space { space ≡ space_of processor.old }
     requires awake { processor.old.stopped ≡ false }
     requires untraced { (flow : _) → is_due processor.old.regs.sr flow ≡ false }
-    ensures means { IfSome result (λ changed. run P.bus (step_of 0 processor.old) (P.world port.old)
-        ≡ ((Finish.Went, processor.new), P.world port.new)) }
-    ensures differ { IfSome result (λ changed.
-        Differ changed (plain_of processor.old.regs) (plain_of processor.new.regs)) }
-    ensures undone { IfNone result (processor.new ≡ processor.old) }
-    ensures same { IfNone result (P.world port.new ≡ P.world port.old) }
+    ensures means { result ≡ true → run P.bus (step_of 0 processor.old) (P.world port.old)
+        ≡ ((Finish.Went, processor.new), P.world port.new) }
+    ensures follows { Follows F.follows follower.old (plain_of processor.old.regs)
+        → Follows F.follows follower.new (plain_of processor.new.regs) }
+    ensures undone { result ≡ false → processor.new ≡ processor.old }
+    ensures same { result ≡ false → P.world port.new ≡ P.world port.old }
     ensures mode { KeepsMode processor.old processor.new }
     ensures still { P.still (P.world port.new) ≡ P.still (P.world port.old) }
     ensures rest { P.rest port.new ≡ P.rest port.old }
 {
-    execute_at_once::<_, COPY>(&decoder.shorts, space, processor, port)
+    execute_at_once::<_, _, COPY>(&decoder.shorts, space, processor, port, follower)
 }
 
 /// One step as `step_in_place` takes it with no interrupt asked for, but its instruction is not carried out by a short

@@ -1,7 +1,7 @@
-use Rattle.std.proofs.Common.{◌≡◌, ◌∙◌, ap, refl, sym}
+use Rattle.std.proofs.Common.{◌≡◌, ◌∙◌, ◌%◌, length, ap, refl, sym, arith}
+use Rattle.mb_instr.specs.declared.registers.Plain.{Plain}
 use Rattle.mb_model.specs.Status.{space_of}
-use Rattle.mb_short.specs.Changed.{changed_of}
-use Rattle.mb_step.proofs.InShort.{differ_apart, even_apart, untraced_went, valid, valid_with}
+use Rattle.mb_step.proofs.InShort.{even_apart, followed_apart, untraced_went, valid, valid_with}
 use Rattle.mb_step.proofs.Registers.{same_mode, same_space}
 use Rattle.mb_step.proofs.fetching.execute_untraced.Goals as goal
 
@@ -23,10 +23,17 @@ returns-in-Some-clause-done g c = λ is.
     c.processor.view_is (assumption c.processor.ranges) c.processor.invariant c.requires.short
     (rw space at c.in-Some.ensures.done) (c.requires.untraced _)
 
-pub returns-in-Some-clause-differ : goal.returns-in-Some-clause-differ
-returns-in-Some-clause-differ g c = λ is.
-    differ_apart (changed_of c.args.short.now) c.processor.inside.cpu c.args.processor.now _ c.processor.inside.plain _ c.processor.view_is refl
-    (assumption c.processor.ranges) c.processor.invariant c.in-Some.ensures.differ
+pub returns-in-Some-clause-follows : goal.returns-in-Some-clause-follows
+returns-in-Some-clause-follows g c =
+    let q = c.perform_short.new.plain in
+    followed_apart g.F.Follower.follows _ _ c.processor.inside.cpu c.args.processor.now _ c.processor.inside.plain (record q { ccr = q.ccr % 32 })
+    c.processor.view_is refl (assumption c.processor.ranges) c.processor.invariant c.in_whole-whole.ensures.eight (omega arith) c.perform_short.ensures.follows
+
+pub returns-in-None-clause-follows : goal.returns-in-None-clause-follows
+returns-in-None-clause-follows g c =
+    followed_apart g.F.Follower.follows _ _ c.processor.inside.cpu c.args.processor.now _ c.processor.inside.plain c.perform_short.new.plain
+    c.processor.view_is refl (assumption c.processor.ranges) c.processor.invariant (ap (λ (p : Plain). length p.a) c.in-None.ensures.undone ∙ assumption c.processor.ranges)
+    (rw (sym c.in-None.ensures.undone) at c.processor.invariant) c.perform_short.ensures.follows
 
 pub returns-in-Some-clause-mode : goal.returns-in-Some-clause-mode
 returns-in-Some-clause-mode g c = same_mode c.processor.inside.plain _ c.processor.inside.cpu c.args.processor.now _ c.processor.view_is refl

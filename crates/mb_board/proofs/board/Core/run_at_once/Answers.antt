@@ -1,16 +1,18 @@
-use Rattle.std.proofs.Common.{◌≡◌, ◌∙◌, ◌+◌, [], ℕ, ap, refl, sym, arith}
+use Rattle.std.proofs.Common.{◌≡◌, ◌∙◌, ◌+◌, ◌-◌, [], ℕ, ap, refl, sym, arith}
 use Rattle.mb_model.specs.Keeping.{rule_a}
 use Rattle.mb_model.specs.Status.{space_of}
 use Rattle.def_processor.specs.declared.Finish.{Finish}
-use Rattle.def_machine.specs.Machine.{Machine}
+use Rattle.def_machine.specs.Machine.{Machine, run_of}
 use Rattle.mb_board.proofs.Calm.{calm_runs, counted}
 use Rattle.mb_board.proofs.Runs.{run_of-zero}
+use Rattle.mb_board.proofs.board.Core.run_at_once.Goals.{else-loop-left-test, then-loop-left-test+then-not-step_at_once}
 use Rattle.mb_board.proofs.board.Core.run_at_once.Goals as goal
 
-pub loop-taken-init : goal.loop-taken-init
-loop-taken-init c =
-    let m = c.args.self.now in record {
-      run = run_of-zero rule_a [] 0 m refl ∙ ap (λ (n : ℕ). counted n m) (let e : m.steps ≡ m.steps + 0 = omega arith in e);
+pub loop-left-init : goal.loop-left-init
+loop-left-init c =
+    let m = c.args.self.now in
+    let none = c.args.limit - c.args.limit in record {
+      run = run_of-zero rule_a [] none m (omega arith) ∙ ap (λ (n : ℕ). counted n m) (let e : m.steps ≡ m.steps + none = omega arith in e);
       calm = c.requires.calm;
       space = c.space-space.ensures ∙ ap (λ (x : Machine). space_of x.cpu) c.self.view_is;
       uncounted = refl;
@@ -18,23 +20,31 @@ loop-taken-init c =
       ram = refl;
     }
 
-pub loop-taken-preserved : goal.loop-taken-preserved
-loop-taken-preserved c =
+pub loop-left-preserved : goal.loop-left-preserved
+loop-left-preserved c =
     let from = c.args.self.now in
-    let n = from.steps + c.loop-taken.taken in
-    let after = c.step_at_once.new.self in record {
-      run = calm_runs from c.loop-taken.self after n c.loop-taken.taken c.loop-taken.invariant.run c.loop-taken.invariant.calm c.in-Some.ensures.means
-          ∙ ap (λ (k : ℕ). counted k after) (let e : n + 1 ≡ from.steps + (c.loop-taken.taken + 1) = omega arith in e);
+    let left = c.loop-left.left in
+    let k = c.args.limit - left in
+    let more = c.args.limit - (left - 1) in
+    let n = from.steps + k in
+    let after = c.step_at_once.new.self in
+    let went = c.step_at_once.ensures.means c.if-not-step_at_once.false in
+    let one : more ≡ k + 1 = let within = c.loop-left.invariant.within in omega arith in record {
+      run = ap (λ (j : ℕ). run_of rule_a [] j from) one
+          ∙ calm_runs from c.loop-left.self after n k c.loop-left.invariant.run c.loop-left.invariant.calm went
+          ∙ ap (λ (j : ℕ). counted j after) (let e : n + 1 ≡ from.steps + more = omega (arith, one) in e);
       calm = c.step_at_once.ensures.calm;
-      space = c.loop-taken.invariant.space ∙ sym c.step_at_once.ensures.space;
-      uncounted = ap (λ (r : Finish × Machine). r.1.steps) c.in-Some.ensures.means ∙ c.loop-taken.invariant.uncounted;
+      space = c.loop-left.invariant.space ∙ sym c.step_at_once.ensures.space;
+      uncounted = ap (λ (r : Finish × Machine). r.1.steps) went ∙ c.loop-left.invariant.uncounted;
       within = (omega arith);
-      ram = c.step_at_once.ensures.ram ∙ c.loop-taken.invariant.ram;
+      ram = c.step_at_once.ensures.ram ∙ c.loop-left.invariant.ram;
     }
 
-pub returns-after-loop-taken-clause-means : goal.returns-after-loop-taken-clause-means
-returns-after-loop-taken-clause-means c = sym c.loop-taken.invariant.run
-
-pub returns-in-None-clause-means : goal.returns-in-None-clause-means
-returns-in-None-clause-means c =
-    ap (counted (c.args.self.now.steps + c.loop-taken.taken)) c.in-None.ensures.undone ∙ sym c.loop-taken.invariant.run
+pub returns-clause-means : goal.returns-clause-means
+returns-clause-means c =
+    let at = counted (c.args.self.now.steps + (c.args.limit - c.loop-left.left)) in
+    elim c.loop-left-test.branch [
+      | else-loop-left-test w ↦ ap at w.self-is ∙ sym c.loop-left.invariant.run
+      | then-loop-left-test+then-not-step_at_once w ↦
+          ap at (w.self-is ∙ w.step_at_once.ensures.undone w.if-not-step_at_once.true) ∙ sym c.loop-left.invariant.run
+    ]

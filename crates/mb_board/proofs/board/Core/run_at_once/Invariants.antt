@@ -6,15 +6,15 @@ use Rattle.mb_board.specs.Calm.{IsCalm}
 use Rattle.mb_board.proofs.Calm.{counted}
 use Rattle.mb_board.proofs.board.Core.run_at_once.Given as goal
 
-abbrev pub invariant-loop-taken : goal.invariant-loop-taken
-invariant-loop-taken l = record {
-  run : run_of rule_a [] l.taken l.initial.self ≡ counted (l.initial.self.steps + l.taken) l.self;
+abbrev pub invariant-loop-left : goal.invariant-loop-left
+invariant-loop-left l = record {
+  run : run_of rule_a [] (l.limit - l.left) l.initial.self ≡ counted (l.initial.self.steps + (l.limit - l.left)) l.self;
   calm : IsCalm l.self;
   space : l.space ≡ space_of l.self.cpu;
   uncounted : l.self.steps ≡ l.initial.self.steps;
-  within : l.taken ≤ l.limit;
+  within : l.left ≤ l.limit;
   ram : length l.self.world.ram ≡ length l.initial.self.world.ram;
 }
 
-abbrev pub decreases-loop-taken : goal.decreases-loop-taken
-decreases-loop-taken l = l.limit - l.taken
+abbrev pub decreases-loop-left : goal.decreases-loop-left
+decreases-loop-left l = l.left

@@ -1,44 +1,51 @@
-use Rattle.std.proofs.Common.{◌∙◌, ◌+◌, ◌-◌, refl, sym, arith}
-use Rattle.mb_instr.specs.Registers.{plain_of}
-use Rattle.def_runs.specs.Native.{about_to_run}
-use Rattle.mb_board.proofs.UserRuns.{continues_behind, continues_here, continues_on, goes_counted}
+use Rattle.std.proofs.Common.{◌≡◌, ◌∙◌, ◌+◌, ◌-◌, ℕ, refl, subst, sym, ap, arith}
+use Rattle.def_machine.specs.Machine.{takes_steps}
+use Rattle.mb_board.specs.Spelling.{Leads}
+use Rattle.mb_board.proofs.UserRuns.{leads_nowhere, leads_on}
+use Rattle.mb_board.proofs.board.Core.run_at_once_for.Goals.{else-loop-left-test, then-loop-left-test+then-not-run_on_at_once}
 use Rattle.mb_board.proofs.board.Core.run_at_once_for.Goals as goal
 
-pub loop-taken-init : goal.loop-taken-init
-loop-taken-init c = record {
-  calm = c.requires.calm;
-  space = c.requires.space;
-  continues = λ n more. continues_here n (n - 0) _ (omega arith);
-  within = (omega arith);
-  retired = (omega arith);
-  exceptions = refl;
-  follow = c.requires.follow;
-  ram = refl;
-}
-
-pub loop-taken-preserved : goal.loop-taken-preserved
-loop-taken-preserved c =
-    let went = c.run_on_at_once.ensures.means c.if-not-run_on_at_once.false in
-    let old = about_to_run c.loop-taken.self c.loop-taken.native (plain_of c.loop-taken.self.cpu.regs) in
-    let counts = goes_counted old _ _ _ went in
-    record {
-      calm = c.run_on_at_once.ensures.calm;
-      space = c.loop-taken.invariant.space ∙ sym c.run_on_at_once.ensures.space;
-      continues = λ n more. continues_on n (n - c.loop-taken.taken) (n - (c.loop-taken.taken + 1)) _ old _ (c.loop-taken.invariant.continues n more)
-          (continues_behind (n - c.loop-taken.taken) (n - (c.loop-taken.taken + 1)) old _ _ _ _ (omega arith) (omega arith) went
-          c.loop-taken.invariant.follow.spelled.fit);
+pub loop-left-init : goal.loop-left-init
+loop-left-init c =
+    let limit = c.args.limit in
+    let m = c.args.self.now in
+    let none : 0 ≡ limit - limit = omega arith in record {
+      calm = c.requires.calm;
+      space = c.requires.space;
+      digits = c.requires.digits;
       within = (omega arith);
-      retired = (let a = counts.retired in let b = c.loop-taken.invariant.retired in omega arith);
-      exceptions = counts.exceptions ∙ c.loop-taken.invariant.exceptions;
-      follow = c.run_on_at_once.ensures.follow;
-      ram = c.run_on_at_once.ensures.ram ∙ c.loop-taken.invariant.ram;
+      leads = λ native begins. subst (λ (k : ℕ). Leads limit k m m native c.args.trail.now) none
+          (leads_nowhere limit m native c.args.trail.now begins);
+      ram = refl;
     }
 
-pub returns-after-loop-taken-clause-means : goal.returns-after-loop-taken-clause-means
-returns-after-loop-taken-clause-means c = c.loop-taken.invariant.continues
+pub loop-left-preserved : goal.loop-left-preserved
+loop-left-preserved c =
+    let limit = c.args.limit in
+    let left = c.loop-left.left in
+    let from = c.args.self.now in
+    let after = c.run_on_at_once.new.self in
+    let trail = c.run_on_at_once.new.trail in
+    let went = c.if-not-run_on_at_once.false in
+    let step = c.run_on_at_once.ensures in
+    let one : (limit - left) + 1 ≡ limit - (left - 1) = let within = c.loop-left.invariant.within in omega arith in
+    record {
+      calm = step.calm;
+      space = c.loop-left.invariant.space ∙ sym step.space;
+      digits = step.digits;
+      within = (omega arith);
+      leads = λ native begins. subst (λ (k : ℕ). Leads limit k from after native trail) one
+          (leads_on limit (limit - left) from c.loop-left.self after native c.loop-left.trail trail (omega arith)
+          (ap takes_steps step.calm.running) (step.means went) (step.trail went) (c.loop-left.invariant.leads native begins));
+      ram = step.ram ∙ c.loop-left.invariant.ram;
+    }
 
 -- a step that is not carried out at once has changed nothing
-pub returns-then-not-run_on_at_once-clause-means : goal.returns-then-not-run_on_at_once-clause-means
-returns-then-not-run_on_at_once-clause-means c =
-    let failed = c.if-not-run_on_at_once.true in
-    λ n more. rw (c.run_on_at_once.ensures.undone failed, c.run_on_at_once.ensures.uncounted failed) (c.loop-taken.invariant.continues n more)
+pub returns-clause-means : goal.returns-clause-means
+returns-clause-means c = elim c.loop-left-test.branch [
+  | else-loop-left-test w ↦ rw (w.self-is, w.trail-is) c.loop-left.invariant.leads
+  | then-loop-left-test+then-not-run_on_at_once w ↦
+      let same = w.run_on_at_once.ensures in
+      let failed = w.if-not-run_on_at_once.true in
+      rw (w.self-is ∙ same.undone failed, w.trail-is ∙ same.same failed) c.loop-left.invariant.leads
+]

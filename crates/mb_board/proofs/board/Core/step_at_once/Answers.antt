@@ -1,5 +1,4 @@
 use Rattle.std.proofs.Common.{◌≡◌, ◌∙◌, Bool, false, ap, refl, subst, sym}
-use Rattle.std.proofs.lemmas.Option.{IfSome_then}
 use Rattle.mb_model.specs.Status.{space_of}
 use Rattle.def_processor.specs.Raise.{is_due}
 use Rattle.def_machine.specs.Machine.{Machine}
@@ -24,8 +23,8 @@ returns-clause-means g c =
     let m = the_view c.self.inside in
     let after : Machine = record { cpu = c.step_at_once.new.processor; world = c.step_at_once.new.port; steps = m.steps; state = m.state } in
     let leaves : LeavesCalm m after = record { devices = c.step_at_once.ensures.still; mode = c.step_at_once.ensures.mode; state = refl } in
-    IfSome_then c.step_at_once.result c.step_at_once.ensures.means
-    (λ changed went. calm_step m after (subst IsCalm (sym c.self.view_is) c.requires.calm) leaves refl went ∙ ap user_step c.self.view_is)
+    λ is.
+    calm_step m after (subst IsCalm (sym c.self.view_is) c.requires.calm) leaves refl (c.step_at_once.ensures.means is) ∙ ap user_step c.self.view_is
 
 pub returns-clause-calm : goal.returns-clause-calm
 returns-clause-calm g c =

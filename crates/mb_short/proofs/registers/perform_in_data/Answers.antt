@@ -1,6 +1,6 @@
 use Rattle.mb_table.specs.Short.{meaning}
 use Rattle.mb_short.proofs.Goings.{row_goes}
-use Rattle.mb_short.proofs.registers.perform_in_registers.Goals as goal
+use Rattle.mb_short.proofs.registers.perform_in_data.Goals as goal
 
 pub returns-then-carry_out-clause-done : goal.returns-then-carry_out-clause-done
 returns-then-carry_out-clause-done g c =

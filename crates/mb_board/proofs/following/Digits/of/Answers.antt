@@ -1,6 +1,6 @@
 use Rattle.std.proofs.Common.{refl, arith}
 use Rattle.mb_board.proofs.Followed.{flow_uncounted}
-use Rattle.mb_board.proofs.following.without_flow.Goals as goal
+use Rattle.mb_board.proofs.following.Digits.of.Goals as goal
 
 pub returns : goal.returns
 returns c =
