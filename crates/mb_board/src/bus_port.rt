@@ -1,7 +1,8 @@
 //! The calls of the bus.
 
-ghost use Rattle.std.specs.Prelude.{ℕ, length};
-ghost use Rattle.mb_port.specs.Pieces.{IsLength};
+ghost use Rattle.std.specs.Prelude.{◌≡◌, ℕ, length, IfOk};
+ghost use Rattle.mb_port.specs.Routine.{Call};
+ghost use Rattle.mb_port.specs.Pieces.{IsLength, IsPiece};
 ghost use Rattle.mb_model.specs.Keeping.{rule_a};
 ghost use Rattle.mb_devices.specs.Devices.{DeviceState};
 ghost use Rattle.def_machine.specs.World.{World};
@@ -11,6 +12,25 @@ use crate::bus::BoardBus;
 use def_machine::{Reference, store_line, take_line};
 use mb_instr::ControlRegister;
 use mb_port::{Fault, Flush, Mmu, MmuReg, Piece, Place, Port, Space};
+
+impl BoardBus {
+    /// Checks a piece for writing whose place is not known at once.
+    #[inline(never)]
+    fn probe_slowly(&mut self, space: Space, piece: Piece) -> Result<Place, Fault>
+        requires { IsPiece piece }
+        ensures means { bus_of rule_a (Call.Probe space piece) self.old ≡ (result, self.new) }
+        ensures len { IfOk result (λ place. place.len ≡ piece.len) }
+        ensures size { length self.new.ram ≡ length self.old.ram }
+    {
+        let r = Reference::writing(space, piece.at);
+        let at = self.translated(r).ok_or(r.refused(piece.len, true))?;
+        let place = Place { at, len: piece.len };
+        if !self.takes_writes(place) {
+            return Err(r.refused(piece.len, false));
+        }
+        Ok(place)
+    }
+}
 
 impl Port for BoardBus {
     ghost World = { World };
@@ -87,17 +107,13 @@ impl Port for BoardBus {
         store_line(self, at, value).ok_or(r.refused(16, false))
     }
 
+    #[inline(always)]
     fn probe(&mut self, space: Space, piece: Piece) -> Result<Place, Fault> {
         let r = Reference::writing(space, piece.at);
         if let Some(at) = self.found_at_once(r, piece.len) {
             return Ok(Place { at, len: piece.len });
         }
-        let at = self.translated(r).ok_or(r.refused(piece.len, true))?;
-        let place = Place { at, len: piece.len };
-        if !self.takes_writes(place) {
-            return Err(r.refused(piece.len, false));
-        }
-        Ok(place)
+        self.probe_slowly(space, piece)
     }
 
     fn get(&mut self, place: Place) -> u32 {
