@@ -12,7 +12,7 @@ ghost use Rattle.mb_board.specs.Arrivals.{IsNext};
 ghost use Rattle.mb_board.specs.Calm.{IsCalm};
 ghost use Rattle.mb_board.specs.Idle.{IsHeld};
 
-use crate::board::{CALM, Core};
+use crate::board::{Calm, Core};
 use crate::bus::BoardBus;
 use crate::receiving::place_behind;
 use crate::states::state_of;
@@ -120,7 +120,7 @@ impl Core {
         let space = self.cpu.space();
         let mut left = limit;
         while left > 0 {
-            if !self.step_at_once::<_, CALM>(space, &mut Nobody) {
+            if !self.step_at_once::<_, Calm>(space, &mut Nobody) {
                 break;
             }
             left -= 1;

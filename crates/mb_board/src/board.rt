@@ -38,17 +38,17 @@ use mb_walk::Ram;
 use std::alloc::Global;
 use std::marker::Model;
 
-/// The copy of a step in runs of the bare board.
-const BARE: usize = 0;
+/// Where a step of the bare board is taken.
+struct Bare;
 
-/// That in its calm steps.
-pub(crate) const CALM: usize = 3;
+/// Where its calm steps are.
+pub(crate) struct Calm;
 
-/// That in calm steps for a monitor.
-pub(crate) const NATIVE: usize = 1;
+/// Where calm steps for a monitor are.
+pub(crate) struct ForMonitor;
 
-/// That for steps at which something arrives, or an interrupt is asked for.
-const ASKED: usize = 2;
+/// Where steps are at which something arrives, or an interrupt is asked for.
+struct Asked;
 
 /// The registers where none are remembered.
 const NO_REGISTERS: Plain = Plain {
@@ -139,7 +139,7 @@ impl Core {
         ensures state { self.new.state ≡ self.old.state }
         ensures ram { length self.new.world.ram ≡ length self.old.world.ram }
     {
-        step_in_place::<_, ASKED>(&mut self.decoder, &mut self.cpu, &mut self.bus, level)
+        step_in_place::<_, Asked>(&mut self.decoder, &mut self.cpu, &mut self.bus, level)
     }
 
     /// The processor's part of a step that has begun, by a short form or by none. Where no interrupt is asked for, its
@@ -156,7 +156,7 @@ impl Core {
             return self.carry_out_at(level);
         }
         if SHORT {
-            step_in_place::<_, BARE>(&mut self.decoder, &mut self.cpu, &mut self.bus, 0)
+            step_in_place::<_, Bare>(&mut self.decoder, &mut self.cpu, &mut self.bus, 0)
         } else {
             step_by_row(&mut self.decoder, &mut self.cpu, &mut self.bus)
         }
@@ -192,11 +192,7 @@ impl Core {
     /// true, and the follower was told what it changed. Else nothing has changed. `space` is that of the processor's
     /// accesses.
     #[inline(always)]
-    pub(crate) fn step_at_once<F: Follower, const COPY: usize>(
-        &mut self,
-        space: Space,
-        follower: &mut F,
-    ) -> bool
+    pub(crate) fn step_at_once<F: Follower, Loop>(&mut self, space: Space, follower: &mut F) -> bool
         requires calm { IsCalm self.old }
         requires space { space ≡ space_of self.old.cpu }
         ensures means { result ≡ true → (Finish.Went, self.new) ≡ user_step self.old }
@@ -207,7 +203,7 @@ impl Core {
         ensures space { space_of self.new.cpu ≡ space_of self.old.cpu }
         ensures ram { length self.new.world.ram ≡ length self.old.world.ram }
     {
-        step_at_once::<_, _, COPY>(&self.decoder, space, &mut self.cpu, &mut self.bus, follower)
+        step_at_once::<_, _, Loop>(&self.decoder, space, &mut self.cpu, &mut self.bus, follower)
     }
 
     /// One step at which nothing arrives, and which is not counted, by no short form.

@@ -10,7 +10,7 @@ ghost use Rattle.mb_board.specs.Fits.{Continues, FitsAlong};
 ghost use Rattle.mb_board.specs.Spelling.{Begins, Leads, Spell, without_flow};
 ghost use Rattle.mb_board.specs.State.{ran_to, run_from};
 
-use crate::board::{Board, Core, NATIVE};
+use crate::board::{Board, Core, ForMonitor};
 use crate::following::Digits;
 use crate::native::{Native, entered};
 use crate::spelling::spelling;
@@ -71,7 +71,7 @@ impl Core {
         ensures digits { digits.new.sum ≡ without_flow (plain_of self.new.cpu.regs) }
         ensures ram { length self.new.world.ram ≡ length self.old.world.ram }
     {
-        if !self.step_at_once::<_, NATIVE>(Space::User, digits) {
+        if !self.step_at_once::<_, ForMonitor>(Space::User, digits) {
             return false;
         }
         *trail = entered(*trail, digits.spelling(self.cpu.plain()));

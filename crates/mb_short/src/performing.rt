@@ -130,11 +130,11 @@ fn perform_followed<P: Port, F: Follower>(
 /// Carries out the instruction of a short form that stands at PC, where that is done at once: then the answer is
 /// whether it changed the flow of control, and the follower was told what it changed. Else nothing has changed.
 ///
-/// A `COPY` is a copy of its own of the most frequent forms: one that a single place calls is compiled into it.
+/// `Loop` names the place that calls it: the most frequent forms are compiled into it, where no other names the same.
 #[rattlefmt::skip]
 #[tactic(auto, using(crate::proofs::Goings::endings, crate::proofs::Followings::followings))]
 #[inline(always)]
-pub fn perform_short<P: Port, F: Follower, const COPY: usize>(
+pub fn perform_short<P: Port, F: Follower, Loop>(
     short: &Short,
     space: Space,
     plain: &mut Plain,
@@ -172,7 +172,7 @@ pub fn perform_short<P: Port, F: Follower, const COPY: usize>(
         | Short::Swap { register }
         | Short::ExtendWord { register } => {
             let before = plain.d[register as usize];
-            let flow = perform_in_data::<_, COPY>(short, space, plain, port)?;
+            let flow = perform_in_data::<_, Loop>(short, space, plain, port)?;
             follower.data(register, before, plain);
             Some(flow)
         }

@@ -69,7 +69,7 @@ fn swap(register: u8, plain: &mut Plain)
     def_instructions::specs::Arithmetic::combine_quick_of,
     def_instructions::specs::Arithmetic::combine_either_way_of,
 ))]
-fn carry_out<P: Port, const COPY: usize>(short: &Short, at: u32, space: Space, plain: &mut Plain, port: &P) -> bool
+fn carry_out<P: Port, Loop>(short: &Short, at: u32, space: Space, plain: &mut Plain, port: &P) -> bool
     requires valid { IfSome (meaning short.now) IsInstr }
     ensures done { result ≡ true
         → RowBy P.bus (meaning short.now) at space plain.old (P.world port.now) plain.new }
@@ -110,7 +110,7 @@ fn carry_out<P: Port, const COPY: usize>(short: &Short, at: u32, space: Space, p
 
 /// Carries out the instruction that stands at PC, where its form has a name of its own for a data register.
 #[inline(always)]
-pub(crate) fn perform_in_data<P: Port, const COPY: usize>(
+pub(crate) fn perform_in_data<P: Port, Loop>(
     short: &Short,
     space: Space,
     plain: &mut Plain,
@@ -125,7 +125,7 @@ pub(crate) fn perform_in_data<P: Port, const COPY: usize>(
 {
     let at = plain.pc;
     plain.pc = at.wrapping_add(2);
-    if carry_out::<_, COPY>(short, at, space, plain, port) {
+    if carry_out::<_, Loop>(short, at, space, plain, port) {
         Some(false)
     } else {
         plain.pc = at;

@@ -276,7 +276,7 @@ fn learn(first: u16, first_words: &mut FirstWords, shorts: &mut Shorts) {
 /// Carries out the instruction of a first word's short form that stands at PC, where that is done at once. Else nothing
 /// has changed.
 #[inline(always)]
-fn execute_short<P: Port, const COPY: usize>(
+fn execute_short<P: Port, Loop>(
     first: u16,
     short: &Short,
     processor: &mut Processor,
@@ -294,7 +294,7 @@ fn execute_short<P: Port, const COPY: usize>(
     ensures rest { P.rest port.new ≡ P.rest port.old }
 {
     let at = processor.plain.pc;
-    let flow = perform_short::<_, _, COPY>(
+    let flow = perform_short::<_, _, Loop>(
         short,
         processor.cpu.space(),
         &mut processor.plain,
@@ -377,7 +377,7 @@ pub(crate) fn execute_by_row<P: Port>(
 /// Carries out the instruction of a first word's short form that stands at PC, where that is done at once; no trace is
 /// due whether or not it changes the flow of control. The follower is told what it changed. Else nothing has changed.
 #[inline(always)]
-fn execute_untraced<P: Port, F: Follower, const COPY: usize>(
+fn execute_untraced<P: Port, F: Follower, Loop>(
     first: u16,
     short: &Short,
     space: Space,
@@ -401,7 +401,7 @@ fn execute_untraced<P: Port, F: Follower, const COPY: usize>(
     ensures still { P.still (P.world port.new) ≡ P.still (P.world port.old) }
     ensures rest { P.rest port.new ≡ P.rest port.old }
 {
-    match perform_short::<_, _, COPY>(short, space, &mut processor.plain, port, follower) {
+    match perform_short::<_, _, Loop>(short, space, &mut processor.plain, port, follower) {
         Some(_) => {
             let _whole = in_whole(&processor.plain);
             processor.plain.ccr %= 32;
@@ -414,7 +414,7 @@ fn execute_untraced<P: Port, F: Follower, const COPY: usize>(
 /// Fetches the instruction that stands at PC and carries it out by its short form, where all that is done at once; no
 /// trace is due. The follower is told what it changed. Else nothing has changed.
 #[inline(always)]
-pub(crate) fn execute_at_once<P: Port, F: Follower, const COPY: usize>(
+pub(crate) fn execute_at_once<P: Port, F: Follower, Loop>(
     shorts: &Shorts,
     space: Space,
     processor: &mut Processor,
@@ -438,7 +438,7 @@ pub(crate) fn execute_at_once<P: Port, F: Follower, const COPY: usize>(
         return false;
     }
     match port.quick_fetch(space, at) {
-        Some(first) => execute_untraced::<_, _, COPY>(
+        Some(first) => execute_untraced::<_, _, Loop>(
             first,
             shorts.of(first),
             space,
@@ -453,7 +453,7 @@ pub(crate) fn execute_at_once<P: Port, F: Follower, const COPY: usize>(
 /// Fetches the instruction that stands at PC and carries it out: by its short form, where that is done at once. No word
 /// is fetched behind those that the instruction needs, and none at an odd PC.
 #[inline(always)]
-pub(crate) fn execute_next<P: Port, const COPY: usize>(
+pub(crate) fn execute_next<P: Port, Loop>(
     first_words: &mut FirstWords,
     shorts: &mut Shorts,
     longer: &mut Longer,
@@ -474,7 +474,7 @@ pub(crate) fn execute_next<P: Port, const COPY: usize>(
         Err(end) => return end,
     };
     let short = shorts.of(first);
-    match execute_short::<_, COPY>(first, short, processor, port) {
+    match execute_short::<_, Loop>(first, short, processor, port) {
         Some(end) => end,
         None => {
             if let Short::Unknown = short {

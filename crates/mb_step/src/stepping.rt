@@ -31,10 +31,10 @@ pub fn rank(level: u8) -> u8
 /// processor that STOP holds idles. Else the instruction at PC is carried out, with the exceptions that it causes. The
 /// decoder is the caller's, whatever it remembers. The answer names the last exception that was entered.
 ///
-/// Each `COPY` is a copy of its own of what a step does most often. Where a single place calls it, it is compiled into
-/// that place whole; so a loop whose steps are to be quick names one that no other place names.
+/// `Loop` names the place that takes the step: what a step does most often is compiled into that place whole, where no
+/// other place names the same.
 #[inline(always)]
-pub fn step_in_place<P: Port, const COPY: usize>(
+pub fn step_in_place<P: Port, Loop>(
     decoder: &mut Decoder,
     processor: &mut Processor,
     port: &mut P,
@@ -53,7 +53,7 @@ pub fn step_in_place<P: Port, const COPY: usize>(
     if processor.is_stopped() {
         return Finish::Idle;
     }
-    execute_next::<_, COPY>(
+    execute_next::<_, Loop>(
         &mut decoder.first_words,
         &mut decoder.shorts,
         &mut decoder.longer,
@@ -62,11 +62,14 @@ pub fn step_in_place<P: Port, const COPY: usize>(
     )
 }
 
+/// The place where a step is taken by itself.
+struct Single;
+
 /// One step as `step_in_place` takes it with no interrupt asked for, of a processor that STOP does not hold and for
 /// which no trace is due, where its instruction is carried out at once by a short form: then the answer is true, and
 /// the follower was told what it changed. Else nothing has changed. `space` is that of the processor's accesses.
 #[inline(always)]
-pub fn step_at_once<P: Port, F: Follower, const COPY: usize>(
+pub fn step_at_once<P: Port, F: Follower, Loop>(
     decoder: &Decoder,
     space: Space,
     processor: &mut Processor,
@@ -86,7 +89,7 @@ pub fn step_at_once<P: Port, F: Follower, const COPY: usize>(
     ensures still { P.still (P.world port.new) ≡ P.still (P.world port.old) }
     ensures rest { P.rest port.new ≡ P.rest port.old }
 {
-    execute_at_once::<_, _, COPY>(&decoder.shorts, space, processor, port, follower)
+    execute_at_once::<_, _, Loop>(&decoder.shorts, space, processor, port, follower)
 }
 
 /// One step as `step_in_place` takes it with no interrupt asked for, but its instruction is not carried out by a short
@@ -128,7 +131,7 @@ pub fn step_to_finish<P: Port>(
     ensures rest { P.rest port.new ≡ P.rest port.old }
 {
     let mut processor = Processor::new(cpu);
-    let finish = step_in_place::<_, 0>(decoder, &mut processor, port, level);
+    let finish = step_in_place::<_, Single>(decoder, &mut processor, port, level);
     *cpu = processor.cpu();
     finish
 }
