@@ -1,5 +1,5 @@
 -- Exceptions in a step: how each is entered, and what follows where its frame has no place.
-use Rattle.std.specs.Prelude.{ℕ, ◌+◌, ◌-◌, ◌%◌, ◌==◌, ◌||◌, ◌&&◌, bit_or, Bool, true, false, if◌then◌else◌}
+use Rattle.std.specs.Prelude.{ℕ, ◌+◌, ◌-◌, ◌%◌, ◌||◌, ◌&&◌, bit_or, Bool, true, false, if◌then◌else◌}
 use Rattle.std.specs.Prelude.{Some, None, Result, Ok, Err}
 use Rattle.mb_port.specs.Routine.{Routine, Return, Then, caught, choose}
 use Rattle.mb_port.specs.declared.types.Fault.{Fault}

@@ -1,6 +1,6 @@
 -- One step of the processor: the entry of an interrupt, an idle tick, or an instruction with the exceptions that it
 -- causes.
-use Rattle.std.specs.Prelude.{◌≡◌, ℕ, ◌+◌, ◌*◌, ◌/◌, ◌%◌, ◌^◌, ◌||◌, ◌&&◌, ◌==◌, not, nat_lt, Bool, true, false, List, [], ◌∷◌}
+use Rattle.std.specs.Prelude.{◌≡◌, ℕ, ◌+◌, ◌*◌, ◌%◌, ◌^◌, ◌||◌, ◌&&◌, ◌==◌, not, nat_lt, Bool, true, false, List, [], ◌∷◌}
 use Rattle.std.specs.Prelude.{if◌then◌else◌}
 use Rattle.mb_port.specs.Routine.{Bus, Routine, Return, Then, caught, choose, mmu, run}
 use Rattle.mb_instr.specs.declared.instruction.Instr.{Instr}

@@ -6,7 +6,7 @@ use Rattle.mb_model.specs.declared.processor.Cpu.{Cpu}
 use Rattle.mb_walk.specs.Memory.{part}
 use Rattle.mb_devices.specs.Devices.{DeviceState, ticked, level_of}
 use Rattle.def_processor.specs.Step.{step_of}
-use Rattle.def_machine.specs.Machine.{Machine, Entries, arrived, begun, takes_steps, asked_of, aborts}
+use Rattle.def_machine.specs.Machine.{Machine, Entries, arrived, takes_steps, asked_of, aborts}
 use Rattle.def_machine.specs.World.{World}
 use Rattle.def_machine.proofs.Asked.{asked_devices, asked_masked, unaborted}
 use Rattle.def_runs.specs.Marks.{trail}

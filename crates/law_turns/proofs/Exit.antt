@@ -32,7 +32,7 @@ use Rattle.mb_devices.specs.Devices.{DeviceState, ticked, level_of}
 use Rattle.def_machine.specs.World.{World}
 use Rattle.def_machine.specs.declared.reference.Reference.{Reference}
 use Rattle.def_machine.specs.Access.{untranslated}
-use Rattle.def_machine.specs.Machine.{Machine, begun, arrived, state_after, takes_steps, asked}
+use Rattle.def_machine.specs.Machine.{Machine, arrived, state_after, takes_steps, asked}
 use Rattle.def_machine.specs.Enters.{IsUntranslated, HasRoom, supervising}
 use Rattle.law_attempts.specs.Attempts.{IsUntraced, NoOther, fetched_by}
 use Rattle.mb_walk.proofs.Parts.{drop-over}

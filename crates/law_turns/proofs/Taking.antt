@@ -16,7 +16,7 @@ use Rattle.mb_model.specs.declared.outcome.RunState.TheVariants.{Running}
 use Rattle.mb_walk.specs.Memory.{AreBytes, part}
 use Rattle.mb_devices.specs.Devices.{DeviceState, level_of}
 use Rattle.def_processor.specs.SystemEnds.{with_registers}
-use Rattle.def_machine.specs.Machine.{begun, going, takes_steps, asked_of}
+use Rattle.def_machine.specs.Machine.{going, takes_steps, asked_of}
 use Rattle.mb_port.specs.Routine.{run}
 use Rattle.def_processor.specs.Return.{low}
 use Rattle.def_guests.specs.Seats.{end_of, on_board, Seat, own, shadow_on, machine_on, guested_on, turned_on, IsSeated, OnlyWithin}

@@ -1,5 +1,5 @@
 -- How large the fields of SSW are.
-use Rattle.std.proofs.Common.{◌≡◌, ◌+◌, ◌^◌, ◌<◌, ◌≤◌, ◌&&◌, lit≤, if◌then◌else◌, ℕ, Bool, true, false, arith}
+use Rattle.std.proofs.Common.{◌+◌, ◌^◌, ◌≤◌, ◌&&◌, lit≤, ℕ, Bool, true, false, arith}
 use Rattle.std.proofs.lemmas.Bool.Decides.{nat_tests}
 use Rattle.mb_port.specs.declared.types.Fault.{Fault}
 use Rattle.mb_port.specs.declared.types.Space.{Space}

@@ -67,7 +67,8 @@ pub struct Access {
 }
 
 /// The fields of [`Access`] in the order of the frame. A line says of a field its name, whether it is a word or a long,
-/// and its place in the frame. `access_fields!(each, it)` hands all lines to the macro `each`, behind the variable `it`.
+/// and its place in the frame. `access_fields!(each, it)` hands all lines to the macro `each`, behind the variable
+/// `it`.
 macro_rules! access_fields {
     ($each:ident, $it:ident) => {
         $each! {

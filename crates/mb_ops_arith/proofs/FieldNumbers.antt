@@ -1,5 +1,5 @@
 -- Numbers of a field's width.
-use Rattle.std.proofs.Common.{◌≡◌, ℕ, zero, suc, ◌-◌, ◌*◌, ◌^◌, ◌<◌, ◌≤◌, refl, subst, arith}
+use Rattle.std.proofs.Common.{◌≡◌, ℕ, zero, suc, ◌*◌, ◌^◌, ◌<◌, ◌≤◌, refl, subst, arith}
 
 -- the bits of one to five bytes
 pub bits_of_bytes : (n : ℕ) → n ≤ 5 → 256 ^ n ≡ 2 ^ (8 * n)

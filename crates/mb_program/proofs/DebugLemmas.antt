@@ -23,7 +23,6 @@ use Rattle.vm_guest.specs.Turns.{RisesByAtMost}
 use Rattle.vm_slices.specs.Fit.{Fits, need_of, share_of}
 use Rattle.vm_slices.specs.Members.{numbered, with_disk}
 use Rattle.vm_slices.specs.declared.open_fault.OpenFault.{OpenFault}
-use Rattle.vm_slices.specs.declared.open_fault.OpenFault.TheVariants as open_fault
 use Rattle.vm_slices.proofs.Attached.{starts_with}
 use Rattle.vm_debug.specs.declared.command.Command.{Command}
 use Rattle.vm_debug.specs.Boards.{course_of, debugging_of, HasCome}

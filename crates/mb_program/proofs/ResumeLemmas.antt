@@ -1,13 +1,13 @@
 -- The guests of a snapshot, before they go on and after.
 use Rattle.std.proofs.Common.{◌≡◌, ◌∙◌, ℕ, zero, suc, ◌+◌, ◌*◌, ◌<◌, ◌≤◌, List, [], ◌∷◌, ◌++◌, append_assoc, length, map, take, drop, refl, sym, ap, subst, arith, Option, Some, None, sum_by, length-drop}
-use Rattle.std.specs.Prelude.{◌-◌, All, IfSome, slice_get}
+use Rattle.std.specs.Prelude.{All, IfSome, slice_get}
 use Rattle.std.proofs.lemmas.List.{append-nil, length-map, take_all}
 use Rattle.std.proofs.lemmas.List.Elements.{All-cons, All-head, All-nil, All-tail}
 use Rattle.std.proofs.lemmas.List.Sums.{sum_by-cons}
 use Rattle.mb_model.specs.Keeping.{rule_k}
 use Rattle.vm_disk.specs.Disk.{DiskState}
 use Rattle.mb_devices.specs.Devices.{DeviceState, attached}
-use Rattle.mb_saved.specs.Saved.{IsLawful, Saved}
+use Rattle.mb_saved.specs.Saved.{IsLawful}
 use Rattle.mb_spelling.specs.Decimals.{from_to}
 use Rattle.mb_spelling.proofs.Ranges.{in_parts}
 use Rattle.def_machine.specs.Machine.{Machine, diskless, reset_with, start, with_devices}

@@ -15,7 +15,7 @@ use Rattle.mb_devices.specs.Devices.{DeviceState}
 use Rattle.mb_saved.specs.Saved.{CanBeKept, IsLawful}
 use Rattle.def_machine.specs.Machine.{Entries, seen_machine, start}
 use Rattle.def_runs.specs.Native.{NativeState}
-use Rattle.def_guests.specs.Rounds.{Hosted, Member, closed_by, left, opened}
+use Rattle.def_guests.specs.Rounds.{Hosted, Member, closed_by, opened}
 use Rattle.def_guests.specs.Turns.{Tally, exits, prepared, steps_in, turn_of}
 use Rattle.def_guests.proofs.ByRule.{guests_run_alone}
 use Rattle.def_guests.proofs.Counts.{counts_are_steps}

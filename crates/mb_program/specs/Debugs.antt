@@ -6,10 +6,10 @@ use Rattle.vm_guest.specs.Session.{GuestAtStart, SessionAtStart}
 use Rattle.vm_slices.specs.Members.{numbered}
 use Rattle.vm_debug.specs.declared.command.Command.{Command}
 use Rattle.vm_debug.specs.Debugs.{Course, Debugging, debugged, printed}
-use Rattle.mb_words.specs.Words.{Text, Debugged}
+use Rattle.mb_words.specs.Words.{Debugged}
 use Rattle.mb_files.specs.Reading.{Reading, gives, ◌>>=◌, file}
 use Rattle.mb_files.specs.Debugged.{commands, sessions_with}
-use Rattle.mb_program.specs.Files.{Ordered, plan_files}
+use Rattle.mb_program.specs.Files.{plan_files}
 use Rattle.mb_program.specs.Headline.{alone, machine_text}
 use Rattle.mb_program.specs.Direct.{bounded, steps_alone}
 use Rattle.mb_program.specs.Shown.{Shown, plain}

@@ -6,7 +6,6 @@ use Rattle.mb_files.specs.Reading.{Reading}
 use Rattle.mb_files.specs.Comes.{Comes}
 use Rattle.mb_files.specs.Reads.{IsUnread}
 use Rattle.mb_files.specs.Shelves.{ShelfSeen}
-use Rattle.mb_files.specs.declared.fault.FileFault.{FileFault}
 use Rattle.mb_files.specs.declared.fault.FileFault.TheVariants as fault
 use Rattle.mb_program.specs.Answers.{Answer, Shown, shows, oversizes, answer_to}
 use Rattle.mb_program.specs.Around.{Around, SinkSeen, Gains, GainsPart}

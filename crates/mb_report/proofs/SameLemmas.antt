@@ -1,5 +1,5 @@
 -- The test of two outcomes decides whether they are equal.
-use Rattle.std.proofs.Common.{◌≡◌, refl, true}
+use Rattle.std.proofs.Common.{◌≡◌, refl}
 use Rattle.std.specs.Bool.{Decides}
 use Rattle.std.specs.Cmp.{booleans_Decides}
 use Rattle.std.proofs.lemmas.Bool.Decides.{Decides-and, Decides-eqb, Decides-like}

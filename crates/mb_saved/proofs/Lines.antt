@@ -1,6 +1,6 @@
 -- The lines of a memory, and the memory that they give back.
-use Rattle.std.proofs.Common.{◌≡◌, ◌∙◌, ℕ, zero, suc, ◌+◌, ◌-◌, ◌*◌, ◌/◌, ◌%◌, ◌≤◌, ◌<◌, ◌==◌, List, [], ◌∷◌, ◌++◌, length, take, drop, replicate, refl, ap, sym, subst, true, false, inl, inr, arith}
-use Rattle.std.specs.Prelude.{All, if◌then◌else◌}
+use Rattle.std.proofs.Common.{◌≡◌, ◌∙◌, ℕ, zero, suc, ◌+◌, ◌-◌, ◌*◌, ◌/◌, ◌≤◌, ◌<◌, ◌==◌, List, [], ◌∷◌, ◌++◌, length, take, drop, replicate, refl, ap, sym, subst, true, false, inl, inr, arith}
+use Rattle.std.specs.Prelude.{All}
 use Rattle.std.specs.List.{AllPairs}
 use Rattle.std.proofs.lemmas.Bool.{cases_Bool}
 use Rattle.std.proofs.lemmas.Bool.Decides.{nat_tests}
@@ -10,7 +10,7 @@ use Rattle.std.proofs.lemmas.List.Quantifiers.{all_pairs_push}
 use Rattle.mb_walk.specs.Memory.{overwritten, with_contents}
 use Rattle.mb_saved.specs.declared.line.RamLine.{RamLine}
 use Rattle.mb_saved.specs.Saved.{IsLine, is_zero}
-use Rattle.mb_saved.specs.Lines.{MemoryIsGivenBack, LinesLieInMemory, LinesAscend, contents_of, first_lines, line_at, lines_of, ram_by}
+use Rattle.mb_saved.specs.Lines.{MemoryIsGivenBack, LinesLieInMemory, LinesAscend, contents_of, first_lines, line_at}
 
 -- ---- memory
 

@@ -155,21 +155,12 @@ pub fn perform_short<P: Port, F: Follower, Loop>(
 {
     match *short {
         Short::Unknown | Short::Other => None,
-        Short::MoveQuick { register, .. }
-        | Short::CopyLong { register, .. }
-        | Short::AddLong { register, .. }
-        | Short::SubtractLong { register, .. }
-        | Short::AndLong { register, .. }
-        | Short::OrLong { register, .. }
-        | Short::ExclusiveOrLong { register, .. }
-        | Short::CompareLong { register, .. }
-        | Short::MultiplyUnsigned { register, .. }
-        | Short::MultiplySigned { register, .. }
-        | Short::ShiftRightLong { register, .. }
-        | Short::AddQuickLong { register, .. }
-        | Short::SubtractQuickLong { register, .. }
-        | Short::TestLong { register }
-        | Short::Swap { register }
+        Short::MoveQuick { register, .. } | Short::CopyLong { register, .. } | Short::AddLong { register, .. }
+        | Short::SubtractLong { register, .. } | Short::AndLong { register, .. } | Short::OrLong { register, .. }
+        | Short::ExclusiveOrLong { register, .. } | Short::CompareLong { register, .. }
+        | Short::MultiplyUnsigned { register, .. } | Short::MultiplySigned { register, .. }
+        | Short::ShiftRightLong { register, .. } | Short::AddQuickLong { register, .. }
+        | Short::SubtractQuickLong { register, .. } | Short::TestLong { register } | Short::Swap { register }
         | Short::ExtendWord { register } => {
             let before = plain.d[register as usize];
             let flow = perform_in_data::<_, Loop>(short, space, plain, port)?;

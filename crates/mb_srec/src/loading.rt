@@ -11,7 +11,8 @@ use mb_walk::overwrite;
 #[tactic(auto, using(mb_walk::proofs::MemoryLemmas::writes))]
 fn put_chunk(bytes: &mut [u8], base: u32, chunk: &Chunk)
     requires lies { LiesBelow (length bytes.old) (chunk_from base (content_of chunk.now)) }
-    ensures after { let (at, more) = chunk_from base (content_of chunk.now) in bytes.new ≡ overwritten bytes.old at more }
+    ensures after { let (at, more) = chunk_from base (content_of chunk.now) in
+        bytes.new ≡ overwritten bytes.old at more }
     ensures size { length bytes.new ≡ length bytes.old }
 {
     if !chunk.bytes().is_empty() {

@@ -1,9 +1,8 @@
 -- What is saved of a guest's machine is lawful.
-use Rattle.std.proofs.Common.{◌≡◌, ◌∙◌, ℕ, ◌+◌, ◌*◌, ◌/◌, ◌%◌, ◌<◌, Bool, true, false, List, length, refl, ap, sym, subst, arith}
+use Rattle.std.proofs.Common.{◌≡◌, ◌+◌, ◌*◌, ◌/◌, ◌%◌, ◌<◌, Bool, true, false, refl, sym, subst, arith}
 use Rattle.std.specs.Int.{from_bool}
-use Rattle.mb_model.specs.Keeping.{list_of}
 use Rattle.mb_devices.specs.Devices.{has_received}
-use Rattle.mb_saved.specs.Saved.{HasBits, IsRamBytes, is_stopped}
+use Rattle.mb_saved.specs.Saved.{IsRamBytes}
 use Rattle.mb_saved.proofs.Lines.{lines_ascend, lines_lie_in_memory}
 use Rattle.def_machine.specs.Machine.{reset_with}
 use Rattle.def_machine.proofs.Beneath.{runs_leave_the_size}

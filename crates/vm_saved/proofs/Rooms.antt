@@ -1,6 +1,6 @@
 -- Queue, console and timer keep to their room, whatever a machine does and whatever arrives.
-use Rattle.std.proofs.Common.{◌≡◌, ◌∙◌, ◌==◌, ℕ, Bool, true, false, List, [], ◌∷◌, ◌+◌, ◌≤◌, length, refl, ap, sym, subst, nat_lt, inl, inr, arith, zero, suc}
-use Rattle.std.specs.Prelude.{Option, Some, None, if◌then◌else◌, unwrap_or, option_map, ◌-◌, drop, ◌++◌}
+use Rattle.std.proofs.Common.{◌≡◌, ◌==◌, ℕ, Bool, true, false, List, [], ◌∷◌, ◌+◌, ◌≤◌, length, refl, sym, subst, nat_lt, inl, inr, arith, zero, suc}
+use Rattle.std.specs.Prelude.{Option, Some, None, if◌then◌else◌, unwrap_or, ◌-◌, drop}
 use Rattle.std.proofs.lemmas.Bool.{cases_Bool}
 use Rattle.std.proofs.lemmas.Bool.Decides.{nat_tests}
 use Rattle.std.proofs.lemmas.List.{length-append, length-drop}
@@ -14,8 +14,8 @@ use Rattle.mb_model.specs.Pages.{page_of}
 use Rattle.mb_devices.specs.declared.register.Register.{Register}
 use Rattle.mb_devices.specs.declared.register.Register.TheVariants.{Data, Status, Ctrl, Period, Count, Ack, Power, Size, Disk}
 use Rattle.mb_devices.specs.declared.devices.TheConstants.{QUEUE_ROOM, CONSOLE_ROOM}
-use Rattle.mb_devices.specs.Devices.{DeviceState, received, reset_of, sent, started, ticked, timer_counted}
-use Rattle.mb_devices.specs.Registers.{powered, register_row}
+use Rattle.mb_devices.specs.Devices.{DeviceState, received, reset_of, sent, ticked, timer_counted}
+use Rattle.mb_devices.specs.Registers.{register_row}
 use Rattle.mb_script.specs.declared.input.Input.{Input}
 use Rattle.mb_script.specs.declared.input.Input.TheVariants.{Byte, Abort}
 use Rattle.def_processor.specs.Step.{step_of}

@@ -1,7 +1,7 @@
 -- Slots that are linked by number. A link is a function of numbers: 0 to 125 are the slots, 126 is the root of the ring
 -- of those in use and the end of each list, and 127 is the root of the free ones.
-use Rattle.std.specs.Prelude.{◌≡◌, ℕ, zero, suc, ◌+◌, ◌<◌, ◌==◌, nat_lt, if◌then◌else◌}
-use Rattle.std.specs.Prelude.{List, [], ◌∷◌, length}
+use Rattle.std.specs.Prelude.{◌≡◌, ℕ, ◌+◌, ◌<◌, nat_lt, if◌then◌else◌}
+use Rattle.std.specs.Prelude.{List, ◌∷◌, length}
 use Rattle.vm_shadow.specs.declared.nodes.TheConstants.{SLOTS, FREE}
 use Rattle.law_links.specs.Paths.{IsPath, times}
 

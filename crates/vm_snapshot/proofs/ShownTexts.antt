@@ -1,13 +1,11 @@
 -- What is written of guests of which a snapshot can be written is one, and it says these.
-use Rattle.std.proofs.Common.{◌≡◌, ◌∙◌, ℕ, zero, suc, ◌+◌, ◌*◌, ◌/◌, ◌<◌, ◌==◌, Bool, true, false, List, [], ◌∷◌, ◌++◌, length, map, refl, ap, sym, subst, append_assoc, arith}
-use Rattle.std.specs.Prelude.{All, Option, Some, None, IfSome, Result, Ok, Err, codes, decimal, option_map, pred, replicate}
+use Rattle.std.proofs.Common.{◌≡◌, ◌∙◌, ℕ, zero, suc, ◌+◌, ◌*◌, ◌/◌, ◌<◌, ◌==◌, Bool, true, false, List, [], ◌∷◌, ◌++◌, length, map, refl, ap, sym, append_assoc, arith}
+use Rattle.std.specs.Prelude.{All, Option, Some, None, IfSome, Ok, Err, codes, decimal, option_map, pred, replicate}
 use Rattle.std.specs.Int.{from_bool}
 use Rattle.std.proofs.lemmas.List.{length-map}
 use Rattle.std.proofs.lemmas.List.Elements.{All-head, All-tail, recursion_from_All}
-use Rattle.mb_model.specs.Seen.{Seen}
-use Rattle.mb_model.specs.declared.processor.Cpu.{Cpu}
 use Rattle.mb_saved.specs.declared.line.RamLine.{RamLine}
-use Rattle.mb_saved.specs.Saved.{Saved, is_stopped}
+use Rattle.mb_saved.specs.Saved.{Saved}
 use Rattle.mb_script.specs.Script.{Entries}
 use Rattle.mb_spelling.specs.Ends.{LawfulChain, LawfulOption, write_chain, write_option}
 use Rattle.mb_spelling.specs.Decimals.{from_to}
@@ -15,23 +13,20 @@ use Rattle.mb_spelling.specs.Places.{read_whole}
 use Rattle.mb_spelling.proofs.Places.{reads_to_the_end}
 use Rattle.mb_walk.specs.Memory.{with_contents}
 use Rattle.mb_report.specs.Text.{count_line, outcome_text}
-use Rattle.vm_disk.specs.Disk.{DiskState, blocks_in, opened, zeros}
+use Rattle.vm_disk.specs.Disk.{DiskState, blocks_in, zeros}
 use Rattle.vm_snapshot.specs.Fronts.{disk_of}
 use Rattle.mb_saved.specs.Lines as saving
 use Rattle.mb_saved.specs.Lines.{contents_of, first_lines}
-use Rattle.vm_snapshot.specs.Guests.{Disk, Guest, Snapshot, boards, guests, snapshot}
+use Rattle.vm_snapshot.specs.Guests.{Disk, Guest, boards, guests, snapshot}
 use Rattle.vm_snapshot.specs.Inputs.{MOST}
 use Rattle.vm_snapshot.specs.Memories.{rows_of}
-use Rattle.vm_snapshot.specs.Outcomes.{IsOfSize}
 use Rattle.vm_snapshot.specs.Plans as plans
 use Rattle.vm_snapshot.specs.Plans.{IsAnswer, IsRead, Plan, plan_of, plan_seen, state_of}
 use Rattle.vm_snapshot.specs.Runs.{entries_of, lines_of}
-use Rattle.vm_snapshot.specs.Shown.{AnswersThat, CanBeTold, GuestsAreTold, HasBlocks, IsSnapshot, ShownGuest, TextsSayOnePlan, guests_text, plan_told, saved_in, snapshot_text, told}
-use Rattle.vm_snapshot.specs.Texts.{above, disk_lines, front_text, machine_text}
-use Rattle.vm_snapshot.specs.declared.plan.SnapFault.{SnapFault}
+use Rattle.vm_snapshot.specs.Shown.{CanBeTold, GuestsAreTold, HasBlocks, ShownGuest, TextsSayOnePlan, guests_text, saved_in, snapshot_text, told}
+use Rattle.vm_snapshot.specs.Texts.{above, disk_lines, front_text}
 use Rattle.vm_snapshot.specs.declared.plan.SnapFault.TheVariants.{Memory, Line}
 use Rattle.vm_snapshot.specs.declared.plan.SnapGuest.{SnapGuest}
-use Rattle.vm_snapshot.specs.declared.plan.SnapPlan.{SnapPlan}
 use Rattle.vm_snapshot.proofs.Fronts.{disks_are_written, fronts_are_written}
 use Rattle.vm_snapshot.proofs.Guests.{snapshot_spells}
 use Rattle.vm_snapshot.proofs.Outcomes.{glue, named_text, outcomes_are_written}

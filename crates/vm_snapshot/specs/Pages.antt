@@ -1,5 +1,5 @@
 -- Kept entries: so many lines, of pages that differ in space or number.
-use Rattle.std.specs.Prelude.{ℕ, ◌+◌, ◌/◌, ◌%◌, ◌==◌, not, Bool, true, ◌||◌, if◌then◌else◌, List, [], ◌∷◌, ◌++◌, codes}
+use Rattle.std.specs.Prelude.{ℕ, ◌/◌, ◌%◌, ◌==◌, not, Bool, true, ◌||◌, if◌then◌else◌, List, [], ◌∷◌, ◌++◌, codes}
 use Rattle.std.specs.List.{list_any}
 use Rattle.mb_port.specs.declared.types.Space.{Space}
 use Rattle.mb_port.specs.declared.types.Space.TheVariants.{User, Super}

@@ -1,11 +1,10 @@
 -- Paths of links, and what a write leaves of them.
-use Rattle.std.proofs.Common.{◌≡◌, ◌≢◌, ◌∙◌, ℕ, zero, suc, ◌+◌, ◌≤◌, ◌<◌, ◌==◌, Bool, true, false, cond, List, [], ◌∷◌, ◌++◌, length}
-use Rattle.std.proofs.Common.{ap, sym, subst, refl, arith, inl, inr, append-nil, append_assoc}
-use Rattle.std.specs.Prelude.{nat_lt}
+use Rattle.std.proofs.Common.{◌≡◌, ◌≢◌, ◌∙◌, ℕ, ◌≤◌, ◌<◌, ◌==◌, true, false, cond, List, [], ◌∷◌, ◌++◌}
+use Rattle.std.proofs.Common.{ap, sym, refl, arith, inl, inr, append-nil, append_assoc}
 use Rattle.std.proofs.lemmas.Bool.{cases_eq}
 use Rattle.std.proofs.lemmas.Bool.Decides.{nat_tests}
 use Rattle.vm_tlb.specs.Chains.{chain, before}
-use Rattle.law_links.specs.Paths.{updated, IsPath, walk, times}
+use Rattle.law_links.specs.Paths.{times}
 use Rattle.law_links.proofs.Paths.{one, none, not_first, times-append, last}
 
 pub before_is : (at from : ℕ) (xs ys : List ℕ) → times at xs ≡ 0 → before at from (xs ++ at ∷ ys) ≡ last from xs

@@ -1,7 +1,7 @@
 -- Nodes that are linked by number: live ones, which have an entry, and free ones. A link is a function of numbers. 0 to
 -- 255 are the nodes; 256 is the root of the ring of all live nodes, and the end of a chain; 256 to 319 are the roots of
 -- the chains, and 320 is that of the free nodes.
-use Rattle.std.specs.Prelude.{◌≡◌, ℕ, zero, suc, ◌+◌, ◌<◌, ◌==◌, Bool, nat_lt, if◌then◌else◌}
+use Rattle.std.specs.Prelude.{◌≡◌, ℕ, ◌+◌, ◌<◌, ◌==◌, Bool, nat_lt, if◌then◌else◌}
 use Rattle.std.specs.Prelude.{List, [], ◌∷◌, ◌++◌, length}
 use Rattle.vm_tlb.specs.declared.nodes.TheConstants.{CHAINS, END, FREE, NODES}
 use Rattle.law_links.specs.Paths.{IsPath, times}

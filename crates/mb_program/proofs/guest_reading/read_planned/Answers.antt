@@ -1,4 +1,4 @@
-use Rattle.std.proofs.Common.{◌≡◌, ◌∙◌, Err, Ok, List, Result, ap, length, subst}
+use Rattle.std.proofs.Common.{◌≡◌, Err, Ok, List, Result, subst}
 use Rattle.std.specs.Prelude.{◌*◌, Vec}
 use Rattle.std.specs.declared.alloc.Global.{Global}
 use Rattle.std.proofs.lemmas.Result.{err_from_is_err_and}

@@ -1,4 +1,3 @@
-use Rattle.std.proofs.Common.{Err, Ok}
 use Rattle.std.proofs.lemmas.Result.{err_from_is_err_and}
 use Rattle.mb_script.specs.Answers.{plan_said}
 use Rattle.mb_files.specs.Reading.{file, sessions}

@@ -1,4 +1,4 @@
-use Rattle.std.proofs.Common.{◌≡◌, ◌∙◌, ℕ, length, ap, sym, subst}
+use Rattle.std.proofs.Common.{◌∙◌, ℕ, length, sym, subst}
 use Rattle.std.specs.Prelude.{All}
 use Rattle.mb_srec.specs.Image.{LiesBelow, all_contents, contents_of}
 use Rattle.mb_walk.specs.Memory.{Contents, contents_from}

@@ -1,9 +1,9 @@
-use Rattle.std.proofs.Common.{◌≡◌, ◌∙◌, ◌+◌, List, ◌∷◌, ◌++◌, length, map, refl, ap, sym, arith}
+use Rattle.std.proofs.Common.{◌≡◌, ◌∙◌, List, ◌∷◌, length, map, refl, ap, sym, arith}
 use Rattle.std.specs.Vec.Iter.{into_iter_items, into_iter_len}
 use Rattle.std.proofs.lemmas.List.{map-append}
 use Rattle.vm_snapshot.specs.declared.plan.SnapGuest.{SnapGuest}
 use Rattle.mb_program.specs.Saves.{seat_of}
-use Rattle.mb_program.specs.Saved.{Left, left_of, left_said}
+use Rattle.mb_program.specs.Saved.{left_of, left_said}
 use Rattle.mb_program.proofs.ResumeLemmas.{all_parted, one_parted}
 use Rattle.mb_program.proofs.resumed.part_guests.Goals as goal
 

@@ -1,4 +1,4 @@
-use Rattle.std.proofs.Common.{◌≡◌, ◌∙◌, Ok, List, map, refl, ap, sym, subst, arith}
+use Rattle.std.proofs.Common.{◌∙◌, Ok, List, map, refl, ap, sym, subst, arith}
 use Rattle.std.proofs.lemmas.Result.{err_from_is_err_and}
 use Rattle.def_guests.specs.Rounds.{Member}
 use Rattle.vm_guest.specs.Session.{IsSession, SessionAtStart}

@@ -32,7 +32,8 @@ returns-in-Some-clause-follows g c =
 pub returns-in-None-clause-follows : goal.returns-in-None-clause-follows
 returns-in-None-clause-follows g c =
     followed_apart g.F.Follower.follows _ _ c.processor.inside.cpu c.args.processor.now _ c.processor.inside.plain c.perform_short.new.plain
-    c.processor.view_is refl (assumption c.processor.ranges) c.processor.invariant (ap (λ (p : Plain). length p.a) c.in-None.ensures.undone ∙ assumption c.processor.ranges)
+    c.processor.view_is refl (assumption c.processor.ranges) c.processor.invariant
+    (ap (λ (p : Plain). length p.a) c.in-None.ensures.undone ∙ assumption c.processor.ranges)
     (rw (sym c.in-None.ensures.undone) at c.processor.invariant) c.perform_short.ensures.follows
 
 pub returns-in-Some-clause-mode : goal.returns-in-Some-clause-mode

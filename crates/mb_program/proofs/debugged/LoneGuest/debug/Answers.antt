@@ -5,7 +5,6 @@ use Rattle.mb_outside.proofs.PrintLemmas.{part_more}
 use Rattle.mb_outside.specs.Prints.{Prints}
 use Rattle.def_machine.specs.Machine.{Machine}
 use Rattle.mb_model.specs.Seen.{seen_of}
-use Rattle.mb_report.specs.Text.{outcome_text}
 use Rattle.def_guests.specs.Seats.{machine_on}
 use Rattle.vm_debug.specs.Boards.{course_of, debugging_of}
 use Rattle.vm_debug.specs.Debugs.{printed}
