@@ -13,6 +13,7 @@ use Rattle.mb_model.specs.Status.{space_of}
 use Rattle.mb_walk.specs.Memory.{AreBytes}
 use Rattle.mb_devices.specs.Devices.{DeviceState, level_of, ticked, IsNotDue, passed}
 use Rattle.def_processor.specs.Raise.{Stepped}
+use Rattle.def_processor.specs.SystemEnds.{with_registers}
 use Rattle.def_processor.specs.Step.{interrupt_mask, rank, step_of}
 use Rattle.def_machine.specs.Machine.{Entries, Machine, arrived, takes_steps, asked, asked_of}
 use Rattle.def_machine.specs.World.{World}
@@ -41,7 +42,7 @@ use Rattle.def_guests.specs.Turns.{marks_of, turn_of}
 use Rattle.def_guests.specs.Seats.{Seat, end_of, machine_on, board_entry, on_board, shadow_on, guested_on, turned_on, IsSame, IsSeated, OnlyWithin, Takes}
 use Rattle.def_guests.proofs.TurnLaws.{nothing_turned}
 use Rattle.law_held.specs.Truth.{Fine}
-use Rattle.law_mirror.specs.Related.{mapping}
+use Rattle.law_mirror.specs.Related.{Site, mapping}
 use Rattle.law_turns.specs.Lawful.{LeavesLawful}
 use Rattle.law_turns.specs.Reads.{read_by_frame}
 use Rattle.law_turns.specs.Batch.{stepped_by}
@@ -51,6 +52,7 @@ use Rattle.law_turns.specs.Taking.{IsLeft, retired_seat, settled, site_of}
 use Rattle.law_turns.specs.Again.{Midway, unbegun, refilled_seat}
 use Rattle.law_turns.proofs.Refill.{again_comes_to_the_same}
 use Rattle.law_turns.proofs.Turn.{more_stays_set}
+use Rattle.law_turns.proofs.Registers.{same_space}
 use Rattle.law_turns.proofs.Again.{midway_again, midway_ahead, midway_begins, midway_ends, midway_level, midway_takes, midway_within, class_begins}
 use Rattle.vm_guest.specs.Memory.{OnlyBetween}
 use Rattle.def_guests.specs.Classes.{assisted}
@@ -480,6 +482,15 @@ stays_ready s t b later ready before after same stays rest =
           (more_stays_set (site_of s) (site_of t) b.world next same.area stays.space more ready.set);
       goes = ap (λ (o : BoardState). takes_steps o.state) rest ∙ ready.goes;
     }
+
+-- where it stands for a run of the guest, and has counted that to its end
+pub counted_ready : (s h : Seat) (after : BoardState) (p : Plain) → site_of h ≡ site_of (record s { cpu = with_registers p s.cpu })
+    → IsSetFor (site_of s) after.world → takes_steps after.state ≡ true → IsReady h after
+counted_ready s h after p is set goes = record {
+  set = subst (λ (x : Site). IsSetFor x after.world)
+      (sym (is ∙ ap (λ (space : Space). (let x : Site = record (site_of s) { space = space } in x)) (same_space p s.cpu))) set;
+  goes = goes;
+}
 
 -- The beginning of a step is nothing to it, nor are idle steps.
 pub begun_ready : (g b : Seat) (board : BoardState) → b ≡ begun_seat g → IsReady g board → IsReady b board

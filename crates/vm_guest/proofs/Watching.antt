@@ -27,15 +27,17 @@ same_spaces Super Super e = refl
 same_spaces User Super e = absurd (let z : ⊥ = cc in z)
 same_spaces Super User e = absurd (let z : ⊥ = cc in z)
 
-module _ (m : Routine Stepped) (s t : Watched) (end : StepEnd) (cpu : Cpu) (is : by_its_end (run watched_bus m s) ≡ ((end, cpu), t)) where
+module _ (rest : Cpu → Routine Stepped) (before : Cpu) (s t : Watched) (end : StepEnd) (cpu : Cpu)
+    (is : by_its_end (run watched_bus (rest before) s) ≡ ((end, cpu), t)) where
   -- it ends alike
-  pub ends_alike : {g h : Guest} → s.guest ≡ g → t.guest ≡ h → by_its_end (run guest_bus m g) ≡ ((end, cpu), h)
-  ends_alike from to =
-      ap (λ (x : Guest). by_its_end (run guest_bus m x)) (sym from) ∙ ap by_its_end (unwatched m s)
+  pub ends_alike : {now : Cpu} → {g h : Guest} → before ≡ now → s.guest ≡ g → t.guest ≡ h → by_its_end (run guest_bus (rest now) g) ≡ ((end, cpu), h)
+  ends_alike {g = g} same from to =
+      ap (λ (x : Cpu). by_its_end (run guest_bus (rest x) g)) (sym same)
+      ∙ ap (λ (x : Guest). by_its_end (run guest_bus (rest before) x)) (sym from) ∙ ap by_its_end (unwatched (rest before) s)
       ∙ ap (λ (x : (StepEnd × Cpu) × Watched). (x.0, (x.1).guest)) is ∙ ap (λ (x : Guest). ((end, cpu), x)) to
 
   -- and where it tells no change, the shadow has stayed
   pub shadow_stays : t.changed ≡ false → t.guest.shadow ≡ s.guest.shadow
   shadow_stays none =
       let ends = ap (λ (x : (StepEnd × Cpu) × Watched). x.1) is in
-      ap (λ (w : Watched). w.guest.shadow) (sym ends) ∙ (stays m s (ap (λ (w : Watched). w.changed) ends ∙ none)).1
+      ap (λ (w : Watched). w.guest.shadow) (sym ends) ∙ (stays (rest before) s (ap (λ (w : Watched). w.changed) ends ∙ none)).1

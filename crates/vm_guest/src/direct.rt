@@ -182,6 +182,7 @@ impl Guest {
             → Takes (w.taken + 1) (scene w.guest w.ram w.native) (scene self.new board.new.world.ram native.new) }
         ensures left { IfSome result (λ vector. (w : BeginsAgain self.old board.old native.old)
             → IsStopped w.guest w.ram w.native w.taken (suc w.refills) self.new board.new native.new vector) }
+        ensures ready { result ≡ None → IsReady self.new board.new }
         ensures still { IfSome result (λ vector. self.new ≡ self.old) }
         ensures steps { self.new.steps ≡ self.old.steps }
         ensures native { (native.new.retired ≤ native.old.retired + 1)
@@ -220,7 +221,7 @@ impl Guest {
         let mut refills = 0;
         while refills < MOST_REFILLS && self.refill(board, &frame) {
             let Some(next) = self.run_again(board, native) else {
-                return false;
+                return true;
             };
             vector = next;
             frame = frame_on(board);

@@ -88,6 +88,9 @@ returns-in_default-clause-takes c = λ w.
     (c.refill.ensures.reads ∙ ap (found (bus_side (guested_on c.refill.new.self c.refill.new.ram.world.ram))) c.if-refill.true) c.refill.ensures.guest
     c.refill.ensures.seated c.refill.ensures.within c.refill.ensures.rest)
 
+pub returns-in_default-clause-ready : goal.returns-in_default-clause-ready
+returns-in_default-clause-ready c = λ so. c.run_again.ensures.ready c.in_default.is
+
 pub returns-in_default-clause-steps : goal.returns-in_default-clause-steps
 returns-in_default-clause-steps c =
     c.run_again.ensures.steps ∙ ap (λ (s : Seat). s.steps) c.refill.ensures.guest ∙ c.loop-refills.invariant.steps

@@ -1,9 +1,5 @@
 use Rattle.std.proofs.Common.{◌∙◌, ap, sym, rules}
-use Rattle.mb_port.specs.Routine.{run}
-use Rattle.def_processor.specs.Raise.{by_its_end}
-use Rattle.def_guests.specs.Bus.{guest_bus}
-use Rattle.def_guests.specs.Turns.{bus_side}
-use Rattle.def_guests.specs.Seats.{Seat, guested_on}
+use Rattle.def_guests.specs.Seats.{Seat}
 use Rattle.vm_port.specs.Parts.{watched_of}
 use Rattle.vm_guest.specs.Rests.{rest_in}
 use Rattle.vm_guest.proofs.Seated.{seated_behind}
@@ -12,18 +8,14 @@ use Rattle.vm_guest.proofs.guest.Guest.process.Goals as goal
 
 pub returns-clause-means : goal.returns-clause-means
 returns-clause-means g c =
-    let w = bus_side (guested_on c.args.self.now (g.R.Ram.bytes c.args.ram.now)) in
-    ap (λ (s : Seat). by_its_end (run guest_bus (rest_in c.args.rest.now c.args.level s.cpu) w)) (sym c.self.view_is)
-    ∙ ends_alike (rest_in c.args.rest.now c.args.level c.self.inside.cpu) (watched_of c.new-port.result) (watched_of c.carry_out-end.new.port)
-    c.carry_out-end.result c.carry_out-end.new.cpu c.carry_out-end.ensures.means
-    (search rules)
-    (search rules)
+    ends_alike (rest_in c.args.rest.now c.args.level) c.self.inside.cpu (watched_of c.new-port.result) (watched_of c.carry_out-end.new.port)
+    c.carry_out-end.result c.carry_out-end.new.cpu c.carry_out-end.ensures.means (ap (λ (s : Seat). s.cpu) c.self.view_is) (search rules) (search rules)
 
 pub returns-clause-stays : goal.returns-clause-stays
 returns-clause-stays g c = λ so.
     let told = sym c.has_changed.ensures ∙ not_false c.has_changed.result so in
     (search rules)
-    ∙ shadow_stays (rest_in c.args.rest.now c.args.level c.self.inside.cpu) (watched_of c.new-port.result) (watched_of c.carry_out-end.new.port)
+    ∙ shadow_stays (rest_in c.args.rest.now c.args.level) c.self.inside.cpu (watched_of c.new-port.result) (watched_of c.carry_out-end.new.port)
     c.carry_out-end.result c.carry_out-end.new.cpu c.carry_out-end.ensures.means told
     ∙ (search rules)
 

@@ -5,11 +5,11 @@ use Rattle.mb_board.specs.State.{ran_to}
 use Rattle.def_runs.specs.declared.RunEnd.TheVariants.{Exit}
 use Rattle.def_runs.specs.Native.{Ran}
 use Rattle.def_guests.specs.Seats.{Seat, Takes}
-use Rattle.law_turns.specs.Taking.{settled}
+use Rattle.law_turns.specs.Taking.{settled, site_of}
 use Rattle.vm_guest.specs.Stops.{BeginsAgain}
 use Rattle.vm_guest.specs.Turns.{scene}
-use Rattle.vm_guest.proofs.Runs.{MayRunOn, counted_native, never_gone}
-use Rattle.vm_guest.proofs.Stops.{from, resumes, again_takes, again_stopped, left_counts}
+use Rattle.vm_guest.proofs.Runs.{MayRunOn, counted_native, counted_set, never_gone}
+use Rattle.vm_guest.proofs.Stops.{counted_ready, from, resumes, again_takes, again_stopped, left_counts}
 use Rattle.vm_guest.proofs.guest.Guest.run_again.Goals.{After-run_board}
 use Rattle.vm_guest.proofs.guest.Guest.run_again.Goals as goal
 
@@ -58,6 +58,15 @@ returns-in-Counted-clause-native c =
     let retired : c.run_board.new.native.retired ≡ c.args.native.now.retired + 1 = counts.0 in
     let exceptions : c.run_board.new.native.exceptions ≡ c.args.native.now.exceptions = counts.1 in
     (omega (arith, retired), omega (arith, exceptions))
+
+pub returns-in-Counted-clause-ready : goal.returns-in-Counted-clause-ready
+returns-in-Counted-clause-ready c = λ none.
+    let r = (goal.at.returns-in-Counted-clause-ready c).After-run_board in
+    let w = c.requires.again in
+    counted_ready c.args.self.now c.settle.new.self c.run_board.new.board c.plain.result
+    (ap site_of c.settle.ensures ∙ ap site_of c.count_refilled.ensures ∙ ap site_of c.go_on.ensures)
+    (counted_set (start r w) c.args.board.now c.args.native.now 0 (may r w) (ended r) c.run_board.ensures.means c.in-Counted.is)
+    (c.run_board.ensures.goes c.in-Counted.is)
 
 -- ---- left once more
 
