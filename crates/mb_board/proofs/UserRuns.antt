@@ -1,6 +1,7 @@
 -- A run in user mode by its first step.
-use Rattle.std.proofs.Common.{◌≡◌, ◌∙◌, ℕ, zero, suc, ◌+◌, ◌-◌, ◌<◌, [], arith, refl, ap, sym, subst, Bool, true, false}
+use Rattle.std.proofs.Common.{◌≡◌, ◌∙◌, ℕ, zero, suc, ◌+◌, ◌-◌, ◌<◌, ◌⊎◌, [], arith, inl, inr, refl, ap, sym, subst, Bool, true, false}
 use Rattle.std.specs.Prelude.{if◌then◌else◌}
+use Rattle.std.proofs.lemmas.Bool.{cases_Bool}
 use Rattle.mb_instr.specs.declared.registers.Plain.{Plain}
 use Rattle.mb_instr.specs.Registers.{is_supervisor, plain_of}
 use Rattle.mb_model.specs.Keeping.{rule_a}
@@ -12,44 +13,26 @@ use Rattle.def_processor.specs.declared.Finish.TheVariants as finish
 use Rattle.def_machine.specs.World.{World}
 use Rattle.def_machine.specs.Machine.{Machine, processed, state_after, takes_steps, with_devices, with_finish}
 use Rattle.def_runs.specs.declared.RunEnd.{RunEnd}
-use Rattle.def_runs.specs.declared.RunEnd.TheVariants.{Counted, Exit, Gone}
-use Rattle.def_runs.specs.Native.{NativeState, Ran, user_step, user_run, ran_by, about_to_run, goes_on, with_retired, EndsBy}
+use Rattle.def_runs.specs.declared.RunEnd.TheVariants.{Counted}
+use Rattle.def_runs.specs.Native.{NativeState, Ran, user_step, user_run, ran_by, about_to_run, ended_by, goes_on, with_retired, with_step, EndsBy}
 use Rattle.mb_board.specs.Fits.{Continues, IsFit, FitsAlong}
 use Rattle.mb_board.specs.Spelling.{Begins, Leads}
 use Rattle.def_runs.proofs.RunEnds.{run-none, run-on, run-off, goes-on, runs-end_by_cause}
 
-not_counted : (e : RunEnd) → (e ≡ Counted → ⊥) → goes_on e ≡ false
-not_counted Counted h = absurd (h refl)
-not_counted (Exit vector) h = refl
-not_counted Gone h = refl
-
 abbrev pub ran_of : RunEnd → Machine → NativeState → Plain → Ran
 ran_of end m native before = record { end = end; machine = m; native = native; before = before }
 
--- A step behind which the run goes on.
-pub record StepsOn (k n : ℕ) (r : Ran) (m : Machine) (native : NativeState) (before : Plain) : Type 0 where
-  pub run : user_run n (about_to_run m native before) ≡ user_run k r
-  pub retired : native.retired ≡ r.native.retired + 1
-  pub exceptions : native.exceptions ≡ r.native.exceptions
+-- a step behind which the run goes on
+steps-on : (k n : ℕ) (r : Ran) (m : Machine) (native : NativeState) (before : Plain) → k ≡ suc n
+    → ran_of Counted m native before ≡ ran_by (user_step r.machine) r → user_run n (about_to_run m native before) ≡ user_run k r
+steps-on k n r m native before count is =
+    let on : goes_on (ran_by (user_step r.machine) r).end ≡ true = sym (ap (λ (x : Ran). goes_on x.end) is) in
+    ap (λ (x : Ran). user_run n x) is ∙ sym (run-on n r on) ∙ ap (λ (j : ℕ). user_run j r) (sym count)
 
-pub steps-on : (k n : ℕ) (r : Ran) (end : RunEnd) (m : Machine) (native : NativeState) (before : Plain) → k ≡ suc n
-    → ran_of end m native before ≡ ran_by (user_step r.machine) r → end ≡ Counted → StepsOn k n r m native before
-steps-on k n r end m native before count is counted =
-    let s = user_step r.machine in
-    let on : goes_on (ran_by s r).end ≡ true = sym (ap (λ (x : Ran). goes_on x.end) is) ∙ ap goes_on counted in
-    let so = goes-on s.0 r s.1 refl on in record {
-      run =
-          ap (λ (e : RunEnd). user_run n (ran_of e m native before)) (sym counted)
-          ∙ ap (λ (x : Ran). user_run n x) is ∙ sym (run-on n r on) ∙ ap (λ (j : ℕ). user_run j r) (sym count);
-      retired = ap (λ (x : Ran). x.native.retired) is ∙ so.retired;
-      exceptions = ap (λ (x : Ran). x.native.exceptions) is ∙ so.exceptions;
-    }
-
--- A step with which the run ends.
-pub step-off : (k n : ℕ) (r ran : Ran) → k ≡ suc n → ran ≡ ran_by (user_step r.machine) r → (ran.end ≡ Counted → ⊥) → ran ≡ user_run k r
+-- a step with which the run ends
+step-off : (k n : ℕ) (r ran : Ran) → k ≡ suc n → ran ≡ ran_by (user_step r.machine) r → goes_on ran.end ≡ false → ran ≡ user_run k r
 step-off k n r ran count is left =
-    let off = sym (ap (λ (x : Ran). goes_on x.end) is) ∙ not_counted ran.end left in
-    is ∙ sym (run-off n r off) ∙ ap (λ (j : ℕ). user_run j r) (sym count)
+    is ∙ sym (run-off n r (sym (ap (λ (x : Ran). goes_on x.end) is) ∙ left)) ∙ ap (λ (j : ℕ). user_run j r) (sym count)
 
 -- ---- registers that fit
 
@@ -58,19 +41,18 @@ fits-next : (n : ℕ) (r ran : Ran) → ran ≡ ran_by (user_step r.machine) r �
 fits-next n r ran is fit later = subst (λ (x : Ran). IsFit (plain_of r.machine.cpu.regs) × (goes_on x.end ≡ true → FitsAlong n x)) is (fit, later)
 
 -- of a run that goes on
-pub fits-on : (k n : ℕ) (r : Ran) (end : RunEnd) (m : Machine) (native : NativeState) (before : Plain) → k ≡ suc n
-    → ran_of end m native before ≡ ran_by (user_step r.machine) r → end ≡ Counted → IsFit (plain_of r.machine.cpu.regs)
+fits-on : (k n : ℕ) (r : Ran) (m : Machine) (native : NativeState) (before : Plain) → k ≡ suc n
+    → ran_of Counted m native before ≡ ran_by (user_step r.machine) r → IsFit (plain_of r.machine.cpu.regs)
     → FitsAlong n (about_to_run m native before) → FitsAlong k r
-fits-on k n r end m native before count is counted fit later =
-    subst (λ (j : ℕ). FitsAlong j r) (sym count)
-    (fits-next n r (ran_of end m native before) is fit (λ on. subst (λ (e : RunEnd). FitsAlong n (ran_of e m native before)) (sym counted) later))
+fits-on k n r m native before count is fit later =
+    subst (λ (j : ℕ). FitsAlong j r) (sym count) (fits-next n r (about_to_run m native before) is fit (λ on. later))
 
 -- of one that ends
-pub fits-off : (k n : ℕ) (r ran : Ran) → k ≡ suc n → ran ≡ ran_by (user_step r.machine) r → (ran.end ≡ Counted → ⊥)
+fits-off : (k n : ℕ) (r ran : Ran) → k ≡ suc n → ran ≡ ran_by (user_step r.machine) r → goes_on ran.end ≡ false
     → IsFit (plain_of r.machine.cpu.regs) → FitsAlong k r
 fits-off k n r ran count is left fit =
     subst (λ (j : ℕ). FitsAlong j r) (sym count)
-    (fits-next n r ran is fit (λ on. absurd (let e : false ≡ true = sym (not_counted ran.end left) ∙ on in let z : ⊥ = cc in z)))
+    (fits-next n r ran is fit (λ on. absurd (let e : false ≡ true = sym left ∙ on in let z : ⊥ = cc in z)))
 
 pub fits-none : (k : ℕ) (r : Ran) → k ≡ 0 → FitsAlong k r
 fits-none k r e = subst (λ (j : ℕ). FitsAlong j r) (sym e) tt
@@ -87,13 +69,13 @@ cause-of n from ran is counted going user =
 -- ---- what stands beside a run
 
 -- the registers before it do not count where it takes a step
-pub any_before : (k : ℕ) (m : Machine) (native : NativeState) (b c : Plain) → 0 < k
+any_before : (k : ℕ) (m : Machine) (native : NativeState) (b c : Plain) → 0 < k
     → user_run k (about_to_run m native b) ≡ user_run k (about_to_run m native c)
 unfolding user_run
 any_before zero m native b c some = absurd (omega arith)
 any_before (suc n) m native b c some = refl
 
-pub fits_any : (k : ℕ) (m : Machine) (native : NativeState) (b c : Plain) → FitsAlong k (about_to_run m native b)
+fits_any : (k : ℕ) (m : Machine) (native : NativeState) (b c : Plain) → FitsAlong k (about_to_run m native b)
     → FitsAlong k (about_to_run m native c)
 fits_any zero m native b c h = h
 fits_any (suc n) m native b c h = h
@@ -104,11 +86,11 @@ ends_so true r = refl
 ends_so false r = refl
 
 -- a run of one step
-pub one_step : (r : Ran) → user_run 1 r ≡ ran_by (user_step r.machine) r
+one_step : (r : Ran) → user_run 1 r ≡ ran_by (user_step r.machine) r
 unfolding user_run
 one_step r = let after = ran_by (user_step r.machine) r in ends_so (goes_on after.end) after
 
-pub fits_once : (r : Ran) → IsFit (plain_of r.machine.cpu.regs) → FitsAlong 1 r
+fits_once : (r : Ran) → IsFit (plain_of r.machine.cpu.regs) → FitsAlong 1 r
 fits_once r fit = (fit, λ on. tt)
 
 -- ---- runs that go on
@@ -120,54 +102,61 @@ pub continues_on : (n k j : ℕ) (from at behind : Ran) → Continues n from k a
 continues_on n k j from at behind first second =
     record { run = second.run ∙ first.run; fit = λ later. first.fit (second.fit later) }
 
--- whatever the registers before it
-pub continues_any : (k : ℕ) (m : Machine) (native : NativeState) (b c : Plain) → 0 < k
-    → Continues k (about_to_run m native b) k (about_to_run m native c)
-continues_any k m native b c some = record { run = any_before k m native c b some; fit = fits_any k m native c b }
-
 -- behind a step
 pub continues_behind : (k n : ℕ) (r : Ran) (m : Machine) (native : NativeState) (b before : Plain) → k ≡ n + 1 → 0 < n
     → ran_of Counted m native b ≡ ran_by (user_step r.machine) r → IsFit (plain_of r.machine.cpu.regs)
     → Continues k r n (about_to_run m native before)
 continues_behind k n r m native b before count some is fit =
     let by : k ≡ suc n = omega arith in record {
-      run = any_before n m native before b some ∙ (steps-on k n r Counted m native b by is refl).run;
-      fit = λ later. fits-on k n r Counted m native b by is refl fit (fits_any n m native before b later);
+      run = any_before n m native before b some ∙ steps-on k n r m native b by is;
+      fit = λ later. fits-on k n r m native b by is fit (fits_any n m native before b later);
     }
 
 -- a step with which the run ends
-pub ends_behind : (n k : ℕ) (from at ran : Ran) → Continues n from k at → 0 < k → ran ≡ ran_by (user_step at.machine) at → (ran.end ≡ Counted → ⊥)
+ends_behind : (n k : ℕ) (from at ran : Ran) → Continues n from k at → 0 < k → ran ≡ ran_by (user_step at.machine) at → goes_on ran.end ≡ false
     → ran ≡ user_run n from
 ends_behind n k from at ran continues some is left = step-off k (k - 1) at ran (omega arith) is left ∙ continues.run
 
-pub fit_behind : (n k : ℕ) (from at ran : Ran) → Continues n from k at → 0 < k → ran ≡ ran_by (user_step at.machine) at → (ran.end ≡ Counted → ⊥)
+fit_behind : (n k : ℕ) (from at ran : Ran) → Continues n from k at → 0 < k → ran ≡ ran_by (user_step at.machine) at → goes_on ran.end ≡ false
     → IsFit (plain_of at.machine.cpu.regs) → FitsAlong n from
 fit_behind n k from at ran continues some is left fit = continues.fit (fits-off k (k - 1) at ran (omega arith) is left fit)
 
 -- the last step
-pub ends_last : (n k : ℕ) (from at ran : Ran) → Continues n from k at → k ≡ 1 → ran ≡ ran_by (user_step at.machine) at → ran ≡ user_run n from
+ends_last : (n k : ℕ) (from at ran : Ran) → Continues n from k at → k ≡ 1 → ran ≡ ran_by (user_step at.machine) at → ran ≡ user_run n from
 ends_last n k from at ran continues one is =
     is ∙ sym (one_step at) ∙ ap (λ (j : ℕ). user_run j at) (sym one) ∙ continues.run
 
-pub fit_last : (n k : ℕ) (from at : Ran) → Continues n from k at → k ≡ 1 → IsFit (plain_of at.machine.cpu.regs) → FitsAlong n from
+fit_last : (n k : ℕ) (from at : Ran) → Continues n from k at → k ≡ 1 → IsFit (plain_of at.machine.cpu.regs) → FitsAlong n from
 fit_last n k from at continues one fit = continues.fit (subst (λ (j : ℕ). FitsAlong j at) (sym one) (fits_once at fit))
 
--- a step behind which the run goes on counts
-pub goes_counted : (r : Ran) (m : Machine) (native : NativeState) (before : Plain) → ran_of Counted m native before ≡ ran_by (user_step r.machine) r
-    → StepsOn 1 0 r m native before
-goes_counted r m native before is = steps-on 1 0 r Counted m native before refl is refl
+-- ---- a step behind which a run goes on
 
--- ---- a calm step
+-- it is retired
+retired_by : (f : Finish) (m after : Machine) (native : NativeState) → (f, after) ≡ user_step m → goes_on (ended_by f after) ≡ true
+    → with_step f (plain_of m.cpu.regs) after native ≡ with_retired (plain_of m.cpu.regs) (plain_of after.cpu.regs) native
+retired_by finish.Went m after native step on = refl
+retired_by (finish.Entered vector) m after native step on = elim (cases_Bool (takes_steps after.state)) [
+  | inl going ↦ absurd (cc (rw going at on))
+  | inr gone ↦ absurd (cc (rw gone at on))
+]
+retired_by finish.Idle m after native step on = refl
+retired_by finish.Halted m after native step on =
+    let one = (goes-on finish.Halted (about_to_run m native (plain_of m.cpu.regs)) after (sym step) on).retired in
+    absurd (let z : ⊥ = omega (arith, one) in z)
 
-pub calm_ran : (m after : Machine) (native counted : NativeState) (from before : Plain) → takes_steps after.state ≡ true
-    → (finish.Went, after) ≡ user_step m → from ≡ plain_of m.cpu.regs → counted ≡ with_retired from (plain_of after.cpu.regs) native
-    → ran_of Counted after counted from ≡ ran_by (user_step m) (about_to_run m native before)
-calm_ran m after native counted from before going step begins is =
-    ap (λ (n : NativeState). ran_of Counted after n from) is
-    ∙ ap (λ (p : Plain). ran_of Counted after (with_retired p (plain_of after.cpu.regs) native) p) begins
-    ∙ ap (λ (b : Bool). ran_of (if b then Counted else Gone) after (with_retired (plain_of m.cpu.regs) (plain_of after.cpu.regs) native)
-    (plain_of m.cpu.regs)) (sym going)
-    ∙ ap (λ (s : Finish × Machine). ran_by s (about_to_run m native before)) step
+went_ran : (f : Finish) (m after : Machine) (native : NativeState) → (f, after) ≡ user_step m → goes_on (ended_by f after) ≡ true
+    → ran_of Counted after (with_retired (plain_of m.cpu.regs) (plain_of after.cpu.regs) native) (plain_of m.cpu.regs)
+    ≡ ran_by (user_step m) (about_to_run m native (plain_of m.cpu.regs))
+went_ran f m after native step on =
+    let p = plain_of m.cpu.regs in
+    let r = about_to_run m native p in
+    ap (λ (e : RunEnd). ran_of e after (with_retired p (plain_of after.cpu.regs) native) p) (sym (goes-on f r after (sym step) on).counted)
+    ∙ ap (λ (n : NativeState). ran_of (ended_by f after) after n p) (sym (retired_by f m after native step on))
+    ∙ ap (λ (s : Finish × Machine). ran_by s r) step
+
+-- a step that is carried out, and leaves a machine that takes steps
+pub went_on : (after : Machine) → takes_steps after.state ≡ true → goes_on (ended_by finish.Went after) ≡ true
+went_on after going = rw going refl
 
 -- ---- a step at which the timer stands still
 
@@ -196,20 +185,65 @@ leads_nowhere limit m native trail begins = record {
 }
 
 -- one more
-pub leads_on : (limit taken : ℕ) (from m after : Machine) (native : NativeState) (trail behind : ℕ) → taken < limit → takes_steps after.state ≡ true
-    → (finish.Went, after) ≡ user_step m
+pub leads_on : (limit taken : ℕ) (from m after : Machine) (f : Finish) (native : NativeState) (trail behind : ℕ) → taken < limit
+    → (f, after) ≡ user_step m → goes_on (ended_by f after) ≡ true
     → ((counted : NativeState) → Begins (plain_of m.cpu.regs) counted trail
     → Begins (plain_of after.cpu.regs) (with_retired (plain_of m.cpu.regs) (plain_of after.cpu.regs) counted) behind)
     → Leads limit taken from m native trail → Leads limit (taken + 1) from after native behind
-leads_on limit taken from m after native trail behind less going step begins l =
+leads_on limit taken from m after f native trail behind less step on begins l =
     let p = plain_of m.cpu.regs in
     let counted = with_retired p (plain_of after.cpu.regs) l.counted in
-    let r = about_to_run m l.counted p in
-    let went = calm_ran m after l.counted counted p p going step refl refl in record {
+    let r = about_to_run m l.counted p in record {
       counted = counted;
       begins = begins l.counted l.begins;
       retired = (let e = l.retired in omega arith);
       exceptions = l.exceptions;
       continues = λ n more. continues_on n (n - taken) (n - (taken + 1)) _ r _ (l.continues n more)
-          (continues_behind (n - taken) (n - (taken + 1)) r after counted p (plain_of after.cpu.regs) (omega arith) (omega arith) went l.begins.fit);
+          (continues_behind (n - taken) (n - (taken + 1)) r after counted p (plain_of after.cpu.regs) (omega arith) (omega arith)
+          (went_ran f m after l.counted step on) l.begins.fit);
     }
+
+-- some more
+pub leads_behind : (limit taken left more : ℕ) (from m after : Machine) (native : NativeState) (trail behind : ℕ) → taken + left ≡ limit
+    → Leads limit taken from m native trail
+    → ((counted : NativeState) → Begins (plain_of m.cpu.regs) counted trail → Leads left more m after counted behind)
+    → Leads limit (taken + more) from after native behind
+leads_behind limit taken left more from m after native trail behind whole l rest =
+    let s = rest l.counted l.begins in record {
+      counted = s.counted;
+      begins = s.begins;
+      retired = (let e = l.retired in let f = s.retired in omega arith);
+      exceptions = s.exceptions ∙ l.exceptions;
+      continues = λ n less.
+          let j : n - taken - more ≡ n - (taken + more) = omega arith in
+          let r = about_to_run m l.counted (plain_of m.cpu.regs) in
+          continues_on n (n - taken) (n - (taken + more)) _ r _ (l.continues n less)
+          (subst (λ (k : ℕ). Continues (n - taken) r k (about_to_run after s.counted (plain_of after.cpu.regs))) j
+          (s.continues (n - taken) (omega arith)));
+    }
+
+-- The step behind them is the last of so many, or the run does not go on behind it.
+abbrev pub IsLast : ℕ → ℕ → Finish → Machine → Type 0
+IsLast limit taken f after = (taken + 1 ≡ limit) ⊎ (goes_on (ended_by f after) ≡ false)
+
+pub run_ends : (limit taken : ℕ) (from m after : Machine) (f : Finish) (native : NativeState) (b : Plain) (trail : ℕ) → taken < limit
+    → (l : Leads (limit - 1) taken from m native trail) → (f, after) ≡ user_step m → IsLast limit taken f after
+    → Continues limit (about_to_run from native b) 0 (ran_by (f, after) (about_to_run m l.counted (plain_of m.cpu.regs)))
+run_ends limit taken from m after f native b trail less l step last =
+    let p = plain_of from.cpu.regs in
+    let r = about_to_run m l.counted (plain_of m.cpu.regs) in
+    let ran = ran_by (f, after) r in
+    let is : ran ≡ ran_by (user_step m) r = ap (λ (s : Finish × Machine). ran_by s r) step in
+    let continues = l.continues limit (omega arith) in
+    let same = any_before limit from native p b (omega arith) in
+    let fits = fits_any limit from native p b in
+    elim last [
+      | inl one ↦ record {
+        run = run-none ran ∙ ends_last limit (limit - taken) (about_to_run from native p) r ran continues (omega arith) is ∙ same;
+        fit = λ none. fits (fit_last limit (limit - taken) (about_to_run from native p) r continues (omega arith) l.begins.fit);
+      }
+      | inr off ↦ record {
+        run = run-none ran ∙ ends_behind limit (limit - taken) (about_to_run from native p) r ran continues (omega arith) is off ∙ same;
+        fit = λ none. fits (fit_behind limit (limit - taken) (about_to_run from native p) r ran continues (omega arith) is off l.begins.fit);
+      }
+    ]

@@ -3,10 +3,10 @@
 ghost use Rattle.std.specs.Prelude.{◌≡◌, ◌+◌, ◌-◌, ◌^◌, ◌<◌, ◌≤◌, length, true, false};
 ghost use Rattle.mb_instr.specs.Registers.{is_supervisor, plain_of};
 ghost use Rattle.mb_model.specs.Status.{space_of};
-ghost use Rattle.def_runs.specs.Native.{EndsBy, NativeState, about_to_run, ended_by, ran_by, user_run, user_step};
+ghost use Rattle.def_runs.specs.Native.{EndsBy, NativeState, about_to_run, ended_by, goes_on, user_run, user_step};
 ghost use Rattle.def_runs.specs.Native.{with_retired, with_step};
 ghost use Rattle.mb_board.specs.Calm.{IsCalm};
-ghost use Rattle.mb_board.specs.Fits.{Continues, FitsAlong};
+ghost use Rattle.mb_board.specs.Fits.{FitsAlong};
 ghost use Rattle.mb_board.specs.Spelling.{Begins, Leads, Spell, without_flow};
 ghost use Rattle.mb_board.specs.State.{ran_to, run_from};
 
@@ -19,6 +19,7 @@ use def_runs::RunEnd;
 use mb_instr::Plain;
 use mb_model::RunState;
 use mb_port::Space;
+use mb_step::Follower;
 
 impl Core {
     /// How a run in user mode ends with a step that ended so, or that it goes on.
@@ -35,22 +36,40 @@ impl Core {
         }
     }
 
-    /// Counts the step that led here from these registers and ended so. They spelled `spelled`, which becomes what the
-    /// registers spell now.
-    fn count(&self, finish: Finish, before: &Plain, spelled: &mut u64, native: &mut Native)
+    /// Whether a run goes on behind a step that ended so.
+    #[inline(always)]
+    fn goes_on(&self, finish: Finish) -> bool
+        ensures { result ≡ goes_on (ended_by finish self.now) }
+    {
+        match self.ended_by(finish) {
+            RunEnd::Counted => true,
+            RunEnd::Exit(_) | RunEnd::Gone => false,
+        }
+    }
+
+    /// Counts the step that led here from these registers, which spelled `beginning`, and ended so.
+    fn count(&self, finish: Finish, before: &Plain, beginning: u64, native: &mut Native)
         requires retired { native.old.retired + 1 < 2 ^ 64 }
         requires exceptions { native.old.exceptions + 1 < 2 ^ 64 }
-        requires spelled { Spell before.now spelled.old }
-        ensures counted { native.new ≡ with_step finish before.now self.now native.old }
-        ensures spelled { Spell (plain_of self.now.cpu.regs) spelled.new }
+        requires spelled { Spell before.now beginning }
+        ensures { native.new ≡ with_step finish before.now self.now native.old }
     {
-        let beginning = *spelled;
-        *spelled = spelling(self.cpu.plain());
         match finish {
-            Finish::Went | Finish::Idle => native.retire(beginning, *spelled),
+            Finish::Went | Finish::Idle => native.retire(beginning, spelling(self.cpu.plain())),
             Finish::Entered(_) if self.takes_steps() => native.except(),
             Finish::Entered(_) | Finish::Halted => {}
         }
+    }
+
+    /// The trail goes on with the registers that a step has left, at which the next one begins, and so do the digits.
+    #[inline(always)]
+    fn enter(&self, digits: &mut Digits, trail: &mut u64)
+        ensures trail { (p : Plain) → (native : NativeState) → Begins p native trail.old
+            → Begins (plain_of self.now.cpu.regs) (with_retired p (plain_of self.now.cpu.regs) native) trail.new }
+        ensures digits { digits.new.sum ≡ without_flow (plain_of self.now.cpu.regs) }
+    {
+        digits.all(self.cpu.plain());
+        *trail = entered(*trail, digits.spelling(self.cpu.plain()));
     }
 
     /// One more step of a run of a calm machine in user mode, where its instruction is carried out at once: then the
@@ -100,21 +119,15 @@ impl Core {
         limit - left
     }
 
-    /// Takes calm steps of a run in user mode that are carried out at once, at most so many, and counts them. Gives how
-    /// many they are. The registers at their beginning spell `spelled`, which becomes what those at their end do.
-    ///
-    /// What the steps change is apart from what is counted, and need not stand in memory.
+    /// Takes steps of a run in user mode that are carried out at once, at most so many: none where the machine is not
+    /// calm. Gives how many they are.
     #[inline(always)]
-    fn run_calmly(&mut self, limit: u32, native: &mut Native, spelled: &mut u64) -> u32
-        requires retired { native.old.retired + limit < 2 ^ 64 }
-        requires spelled { Spell (plain_of self.old.cpu.regs) spelled.old }
+    fn run_calmly(&mut self, limit: u32, digits: &mut Digits, trail: &mut u64) -> u32
+        requires digits { digits.old.sum ≡ without_flow (plain_of self.old.cpu.regs) }
         ensures within { result ≤ limit }
-        ensures means { (n : _) → limit < n
-            → Continues n (about_to_run self.old native.old (plain_of self.old.cpu.regs))
-            (n - result) (about_to_run self.new native.new (plain_of self.new.cpu.regs)) }
-        ensures retired { native.new.retired ≡ native.old.retired + result }
-        ensures exceptions { native.new.exceptions ≡ native.old.exceptions }
-        ensures spelled { Spell (plain_of self.new.cpu.regs) spelled.new }
+        ensures means { (native : NativeState) → Begins (plain_of self.old.cpu.regs) native trail.old
+            → Leads limit result self.old self.new native trail.new }
+        ensures digits { digits.new.sum ≡ without_flow (plain_of self.new.cpu.regs) }
         ensures ram { length self.new.world.ram ≡ length self.old.world.ram }
     {
         if !self.is_calm() {
@@ -123,33 +136,24 @@ impl Core {
         let Space::User = self.cpu.space() else {
             return 0;
         };
-        let mut digits = Digits::of(*spelled, self.cpu.plain());
-        let mut trail = native.begun(*spelled);
-        let taken = self.run_at_once_for(limit, &mut digits, &mut trail);
-        *spelled = digits.spelling(self.cpu.plain());
-        native.retire_all(taken, trail, *spelled);
-        taken
+        self.run_at_once_for(limit, digits, trail)
     }
 
-    /// One more step of a run in user mode, which is counted, and how the run ends with it. The registers at its
-    /// beginning, which `before` becomes, spell `spelled`, and that becomes what those at its end do.
-    fn run_on(&mut self, native: &mut Native, before: &mut Plain, spelled: &mut u64) -> RunEnd
-        requires retired { native.old.retired + 1 < 2 ^ 64 }
-        requires exceptions { native.old.exceptions + 1 < 2 ^ 64 }
-        requires spelled { Spell (plain_of self.old.cpu.regs) spelled.old }
-        ensures means { record { end = result; machine = self.new; native = native.new; before = before.new }
-            ≡ ran_by (user_step self.old) (about_to_run self.old native.old before.old) }
-        ensures spelled { Spell (plain_of self.new.cpu.regs) spelled.new }
+    /// One more step of a run in user mode, by no short form. The registers at its beginning are remembered.
+    #[inline(always)]
+    fn run_on(&mut self, before: &mut Plain) -> Finish
+        ensures means { (result, self.new) ≡ user_step self.old }
+        ensures before { before.new ≡ plain_of self.old.cpu.regs }
         ensures ram { length self.new.world.ram ≡ length self.old.world.ram }
     {
         *before = *self.cpu.plain();
-        let finish = self.step_apart();
-        self.count(finish, before, spelled, native);
-        self.ended_by(finish)
+        self.step_apart()
     }
 
     /// Takes steps in user mode, at which nothing arrives and which are counted in `native` alone, up to the first that
     /// enters an exception, halts or switches off, or so many.
+    ///
+    /// What the steps change is apart from what is counted, and need not stand in memory.
     fn run(&mut self, limit: u32, native: &mut Native, before: &mut Plain) -> RunEnd
         requires retired { native.old.retired < 2 ^ 63 }
         requires exceptions { native.old.exceptions < 2 ^ 63 }
@@ -161,16 +165,22 @@ impl Core {
         if limit == 0 {
             return RunEnd::Counted;
         }
-        let mut spelled = spelling(self.cpu.plain());
+        let spelled = spelling(self.cpu.plain());
+        let mut digits = Digits::of(spelled, self.cpu.plain());
+        let mut trail = native.begun(spelled);
         let mut left = limit - 1;
-        while left > 0 {
-            left -= self.run_calmly(left - 1, native, &mut spelled);
-            match self.run_on(native, before, &mut spelled) {
-                RunEnd::Counted => left -= 1,
-                end => return end,
+        loop {
+            left -= self.run_calmly(left, &mut digits, &mut trail);
+            let finish = self.run_on(before);
+            if left == 0 || !self.goes_on(finish) {
+                let beginning = digits.spelling(before);
+                native.retire_all(limit - 1 - left, trail, beginning);
+                self.count(finish, before, beginning, native);
+                return self.ended_by(finish);
             }
+            left -= 1;
+            self.enter(&mut digits, &mut trail);
         }
-        self.run_on(native, before, &mut spelled)
     }
 }
 

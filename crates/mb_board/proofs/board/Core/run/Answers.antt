@@ -1,75 +1,74 @@
-use Rattle.std.proofs.Common.{◌≡◌, ◌∙◌, ◌-◌, ℕ, suc, ap, sym, subst, refl, arith}
+use Rattle.std.proofs.Common.{◌≡◌, ◌∙◌, ◌-◌, ◌+◌, ℕ, ap, inl, inr, sym, subst, arith}
 use Rattle.mb_instr.specs.Registers.{plain_of}
-use Rattle.def_machine.specs.Machine.{Machine}
-use Rattle.def_runs.specs.Native.{about_to_run}
+use Rattle.mb_instr.specs.declared.registers.Plain.{Plain}
 use Rattle.def_runs.specs.declared.RunEnd.{RunEnd}
-use Rattle.mb_board.specs.Fits.{Continues}
-use Rattle.mb_board.proofs.UserRuns.{continues_any, continues_behind, continues_on, ends_behind, ends_last, fit_behind, fit_last}
-use Rattle.mb_board.proofs.UserRuns.{goes_counted, no-step, ran_of}
+use Rattle.def_runs.specs.Native.{NativeState, about_to_run, ended_by, with_step}
+use Rattle.def_runs.proofs.RunEnds.{run-none}
+use Rattle.mb_board.specs.Spelling.{Leads}
+use Rattle.mb_board.proofs.UserRuns.{IsLast, leads_behind, leads_on, no-step, ran_of, run_ends}
+use Rattle.mb_board.proofs.board.Core.run.Goals.{then-left-eq0-via-then-left-eq0, then-left-eq0-via-else-left-eq0+then-not-goes_on}
 use Rattle.mb_board.proofs.board.Core.run.Goals as goal
 
 pub returns-then-limit-eq0-clause-means : goal.returns-then-limit-eq0-clause-means
 returns-then-limit-eq0-clause-means c =
     no-step c.args.limit (about_to_run c.args.self.now c.args.native.now c.args.before.now) c.if-limit-eq0.true
 
-pub loop-left-init : goal.loop-left-init
-loop-left-init c =
-    let limit = c.args.limit in
-    let count : limit ≡ suc (limit - 1) = omega arith in
-    let m = c.args.self.now in
-    let native = c.args.native.now in
-    let before = c.args.before.now in
-    let p = plain_of m.cpu.regs in
-    record {
-      continues = subst (λ (k : ℕ). Continues limit (about_to_run m native before) k (about_to_run m native p)) count
-          (continues_any limit m native before p (omega arith));
-      spelled = rw (c.plain.ensures ∙ ap (λ (x : Machine). plain_of x.cpu.regs) c.self.view_is) at c.spelling-spelled.ensures;
-      retired = (omega arith);
-      exceptions = c.requires.exceptions;
-      ram = refl;
-    }
-
 pub loop-left-preserved : goal.loop-left-preserved
 loop-left-preserved c =
+    let most = c.args.limit - 1 in
     let left = c.loop-left.left in
     let calm = c.run_calmly-left in
-    let k = suc left - calm.result in
-    let n = suc (left - calm.result - 1) in
-    let r = about_to_run calm.new.self calm.new.native (plain_of calm.new.self.cpu.regs) in
-    let m = c.run_on.new.self in
-    let native = c.run_on.new.native in
-    let before = c.run_on.new.before in
-    let went = ap (λ (e : RunEnd). ran_of e m native before) (sym c.in-Counted.is) ∙ c.run_on.ensures.means in
-    let counts = goes_counted r m native before went in
+    let held = c.loop-left.invariant in
+    let m = calm.new.self in
+    let after = c.run_on-finish.new.self in
+    let native = c.args.native.now in
+    let taken = most - left + calm.result in
+    let one : taken + 1 ≡ most - (left - calm.result - 1) = omega arith in
+    let behind = leads_behind most (most - left) left calm.result c.args.self.now c.loop-left.self m native c.loop-left.trail calm.new.trail (omega arith)
+    held.leads calm.ensures.means in
     record {
-      continues = continues_on c.args.limit (suc left) n _ _ _ c.loop-left.invariant.continues
-          (continues_on (suc left) k n _ r _ (calm.ensures.means (suc left) (omega arith))
-          (continues_behind k n r m native before (plain_of m.cpu.regs) (omega arith) (omega arith) went calm.ensures.spelled.fit));
-      spelled = c.run_on.ensures.spelled;
-      retired = (let a = counts.retired in let b = calm.ensures.retired in let d = c.loop-left.invariant.retired in let e = calm.ensures.within in
-          omega arith);
-      exceptions = (let a = counts.exceptions in let b = calm.ensures.exceptions in let d = c.loop-left.invariant.exceptions in omega arith);
-      ram = c.run_on.ensures.ram ∙ calm.ensures.ram ∙ c.loop-left.invariant.ram;
+      within = (omega arith);
+      leads = subst (λ (k : ℕ). Leads most k c.args.self.now after native c.enter.new.trail) one
+          (leads_on most taken c.args.self.now m after c.run_on-finish.result native calm.new.trail c.enter.new.trail (omega arith)
+          c.run_on-finish.ensures.means (sym c.goes_on.ensures ∙ c.if-not-goes_on.false) (λ n begins. c.enter.ensures.trail (plain_of m.cpu.regs) n begins) behind);
+      digits = c.enter.ensures.digits;
+      native = held.native;
+      ram = c.run_on-finish.ensures.ram ∙ calm.ensures.ram ∙ held.ram;
     }
 
-pub returns-clause-means : goal.returns-clause-means
-returns-clause-means c =
-    ends_last c.args.limit (suc c.loop-left.left) _ _ _ c.loop-left.invariant.continues (omega arith) c.run_on-2.ensures.means
-
-pub returns-clause-fit : goal.returns-clause-fit
-returns-clause-fit c =
-    fit_last c.args.limit (suc c.loop-left.left) _ _ c.loop-left.invariant.continues (omega arith) c.loop-left.invariant.spelled.fit
-
-pub returns-in_default : goal.returns-in_default
-returns-in_default c =
+pub returns-then-left-eq0 : goal.returns-then-left-eq0
+returns-then-left-eq0 c =
+    let limit = c.args.limit in
     let left = c.loop-left.left in
     let calm = c.run_calmly-left in
-    let k = suc left - calm.result in
-    let r = about_to_run calm.new.self calm.new.native (plain_of calm.new.self.cpu.regs) in
-    let continues = continues_on c.args.limit (suc left) k _ _ r c.loop-left.invariant.continues (calm.ensures.means (suc left) (omega arith)) in
-    let last = ran_of c.run_on.result c.run_on.new.self c.run_on.new.native c.run_on.new.before in
+    let held = c.loop-left.invariant in
+    let m = calm.new.self in
+    let f = c.run_on-finish.result in
+    let after = c.run_on-finish.new.self in
+    let before = c.run_on-finish.new.before in
+    let native = c.args.native.now in
+    let p = plain_of m.cpu.regs in
+    let taken = limit - 1 - left + calm.result in
+    let behind = leads_behind (limit - 1) (limit - 1 - left) left calm.result c.args.self.now c.loop-left.self m native c.loop-left.trail calm.new.trail
+    (omega arith) held.leads calm.ensures.means in
+    let steps : taken ≡ limit - 1 - (left - calm.result) = omega arith in
+    let counted = c.retire_all.ensures p behind.counted behind.begins (rw c.run_on-finish.ensures.before at c.spelling-beginning.ensures)
+    (behind.retired ∙ ap (λ (k : ℕ). native.retired + k) steps
+    ∙ ap (λ (n : NativeState). n.retired + (limit - 1 - (left - calm.result))) (sym held.native))
+    (behind.exceptions ∙ ap (λ (n : NativeState). n.exceptions) (sym held.native)) in
+    let last : IsLast limit taken f after = elim c.then-left-eq0.branch [
+      | then-left-eq0-via-then-left-eq0 w ↦ inl (let e = w.if-left-eq0.true in omega arith)
+      | then-left-eq0-via-else-left-eq0+then-not-goes_on w ↦ inr (sym w.goes_on.ensures ∙ w.if-not-goes_on.true)
+    ] in
+    let ends = run_ends limit taken c.args.self.now m after f native c.args.before.now calm.new.trail (omega arith) behind c.run_on-finish.ensures.means
+    last in
     record {
-      means = ends_behind c.args.limit k _ r last continues (omega arith) c.run_on.ensures.means c.in_default.not-Counted;
-      fit = fit_behind c.args.limit k _ r last continues (omega arith) c.run_on.ensures.means c.in_default.not-Counted calm.ensures.spelled.fit;
-      ram = c.run_on.ensures.ram ∙ calm.ensures.ram ∙ c.loop-left.invariant.ram;
+      means =
+          ap (λ (e : RunEnd). ran_of e after c.count.new.native before) c.ended_by.ensures
+          ∙ ap (λ (n : NativeState). ran_of (ended_by f after) after n before) c.count.ensures
+          ∙ ap (λ (b : Plain). ran_of (ended_by f after) after (with_step f b after c.retire_all.new.self) b) c.run_on-finish.ensures.before
+          ∙ ap (λ (n : NativeState). ran_of (ended_by f after) after (with_step f p after n) p) counted
+          ∙ sym (run-none (ran_of (ended_by f after) after (with_step f p after behind.counted) p)) ∙ ends.run;
+      fit = ends.fit tt;
+      ram = c.run_on-finish.ensures.ram ∙ calm.ensures.ram ∙ held.ram;
     }

@@ -1,17 +1,14 @@
-use Rattle.std.proofs.Common.{◌≡◌, ◌+◌, ◌<◌, ◌^◌, length, suc}
+use Rattle.std.proofs.Common.{◌≡◌, ◌-◌, ◌<◌, length}
 use Rattle.mb_instr.specs.Registers.{plain_of}
-use Rattle.def_runs.specs.Native.{about_to_run}
-use Rattle.mb_board.specs.Fits.{Continues}
-use Rattle.mb_board.specs.Spelling.{Spell}
+use Rattle.mb_board.specs.Spelling.{Leads, without_flow}
 use Rattle.mb_board.proofs.board.Core.run.Given as goal
 
 abbrev pub invariant-loop-left : goal.invariant-loop-left
 invariant-loop-left l = record {
-  continues : Continues l.limit (about_to_run l.initial.self l.initial.native l.initial.before) (suc l.left)
-      (about_to_run l.self l.native (plain_of l.self.cpu.regs));
-  spelled : Spell (plain_of l.self.cpu.regs) l.spelled;
-  retired : l.native.retired + suc l.left < 2 ^ 64;
-  exceptions : l.native.exceptions < 2 ^ 63;
+  within : l.left < l.limit;
+  leads : Leads (l.limit - 1) (l.limit - 1 - l.left) l.initial.self l.self l.initial.native l.trail;
+  digits : l.digits.sum ≡ without_flow (plain_of l.self.cpu.regs);
+  native : l.native ≡ l.initial.native;
   ram : length l.self.world.ram ≡ length l.initial.self.world.ram;
 }
 

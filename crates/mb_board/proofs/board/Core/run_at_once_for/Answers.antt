@@ -1,7 +1,8 @@
 use Rattle.std.proofs.Common.{◌≡◌, ◌∙◌, ◌+◌, ◌-◌, ℕ, refl, subst, sym, ap, arith}
 use Rattle.def_machine.specs.Machine.{takes_steps}
+use Rattle.def_processor.specs.declared.Finish.TheVariants.{Went}
 use Rattle.mb_board.specs.Spelling.{Leads}
-use Rattle.mb_board.proofs.UserRuns.{leads_nowhere, leads_on}
+use Rattle.mb_board.proofs.UserRuns.{leads_nowhere, leads_on, went_on}
 use Rattle.mb_board.proofs.board.Core.run_at_once_for.Goals.{else-loop-left-test, then-loop-left-test+then-not-run_on_at_once}
 use Rattle.mb_board.proofs.board.Core.run_at_once_for.Goals as goal
 
@@ -35,8 +36,8 @@ loop-left-preserved c =
       digits = step.digits;
       within = (omega arith);
       leads = λ native begins. subst (λ (k : ℕ). Leads limit k from after native trail) one
-          (leads_on limit (limit - left) from c.loop-left.self after native c.loop-left.trail trail (omega arith)
-          (ap takes_steps step.calm.running) (step.means went) (step.trail went) (c.loop-left.invariant.leads native begins));
+          (leads_on limit (limit - left) from c.loop-left.self after Went native c.loop-left.trail trail (omega arith)
+          (step.means went) (went_on after (ap takes_steps step.calm.running)) (step.trail went) (c.loop-left.invariant.leads native begins));
       ram = step.ram ∙ c.loop-left.invariant.ram;
     }
 
