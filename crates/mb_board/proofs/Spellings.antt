@@ -62,10 +62,6 @@ places t s = omega arith
 pub with-remainder : (t s : ℕ) → with_spelled t (s % 2 ^ 64) ≡ with_spelled t s
 with-remainder t s = omega arith
 
--- the same spelling twice
-pub twice : (t s : ℕ) → (t * 17799023633837314945 % 2 ^ 64 + s * 12439396676277002690 % 2 ^ 64) % 2 ^ 64 ≡ with_spelled (with_spelled t s) s
-twice t s = omega arith
-
 -- a trail without the spelling behind it
 pub back : (t s trail : ℕ) → t < 2 ^ 64 → s < 2 ^ 64 → trail ≡ with_spelled t s
     → (trail + (2 ^ 64 - s)) % 2 ^ 64 * 11621620356712541761 % 2 ^ 64 ≡ t

@@ -1,5 +1,5 @@
 -- A run in user mode by its first step.
-use Rattle.std.proofs.Common.{◌≡◌, ◌∙◌, ℕ, zero, suc, ◌+◌, ◌-◌, ◌<◌, ◌⊎◌, [], arith, inl, inr, refl, ap, sym, subst, Bool, true, false}
+use Rattle.std.proofs.Common.{◌≡◌, ◌∙◌, ℕ, zero, suc, ◌+◌, ◌-◌, ◌<◌, ◌≤◌, ◌⊎◌, [], arith, inl, inr, refl, ap, sym, subst, Bool, true, false}
 use Rattle.std.specs.Prelude.{if◌then◌else◌}
 use Rattle.std.proofs.lemmas.Bool.{cases_Bool}
 use Rattle.mb_instr.specs.declared.registers.Plain.{Plain}
@@ -175,62 +175,65 @@ quick_step m after still means steps state =
 -- ---- calm steps
 
 pub leads_nowhere : (limit : ℕ) (m : Machine) (native : NativeState) (trail : ℕ) → Begins (plain_of m.cpu.regs) native trail
-    → Leads limit 0 m m native trail
+    → Leads limit (limit - limit) m m native trail
 leads_nowhere limit m native trail begins = record {
   counted = native;
   begins = begins;
   retired = (omega arith);
   exceptions = refl;
-  continues = λ n more. continues_here n (n - 0) (about_to_run m native (plain_of m.cpu.regs)) (omega arith);
+  continues = λ n more. continues_here n (n - (limit - limit)) (about_to_run m native (plain_of m.cpu.regs)) (omega arith);
 }
 
 -- one more
-pub leads_on : (limit taken : ℕ) (from m after : Machine) (f : Finish) (native : NativeState) (trail behind : ℕ) → taken < limit
+pub leads_on : (limit left : ℕ) (from m after : Machine) (f : Finish) (native : NativeState) (trail behind : ℕ) → 0 < left → left ≤ limit
     → (f, after) ≡ user_step m → goes_on (ended_by f after) ≡ true
     → ((counted : NativeState) → Begins (plain_of m.cpu.regs) counted trail
     → Begins (plain_of after.cpu.regs) (with_retired (plain_of m.cpu.regs) (plain_of after.cpu.regs) counted) behind)
-    → Leads limit taken from m native trail → Leads limit (taken + 1) from after native behind
-leads_on limit taken from m after f native trail behind less step on begins l =
+    → Leads limit (limit - left) from m native trail → Leads limit (limit - (left - 1)) from after native behind
+leads_on limit left from m after f native trail behind some within step on begins l =
     let p = plain_of m.cpu.regs in
     let counted = with_retired p (plain_of after.cpu.regs) l.counted in
-    let r = about_to_run m l.counted p in record {
+    let r = about_to_run m l.counted p in
+    let taken = limit - left in
+    let more = limit - (left - 1) in record {
       counted = counted;
       begins = begins l.counted l.begins;
       retired = (let e = l.retired in omega arith);
       exceptions = l.exceptions;
-      continues = λ n more. continues_on n (n - taken) (n - (taken + 1)) _ r _ (l.continues n more)
-          (continues_behind (n - taken) (n - (taken + 1)) r after counted p (plain_of after.cpu.regs) (omega arith) (omega arith)
+      continues = λ n less. continues_on n (n - taken) (n - more) _ r _ (l.continues n less)
+          (continues_behind (n - taken) (n - more) r after counted p (plain_of after.cpu.regs) (omega arith) (omega arith)
           (went_ran f m after l.counted step on) l.begins.fit);
     }
 
 -- some more
-pub leads_behind : (limit taken left more : ℕ) (from m after : Machine) (native : NativeState) (trail behind : ℕ) → taken + left ≡ limit
-    → Leads limit taken from m native trail
-    → ((counted : NativeState) → Begins (plain_of m.cpu.regs) counted trail → Leads left more m after counted behind)
-    → Leads limit (taken + more) from after native behind
-leads_behind limit taken left more from m after native trail behind whole l rest =
-    let s = rest l.counted l.begins in record {
+pub leads_behind : (limit left rest : ℕ) (from m after : Machine) (native : NativeState) (trail behind : ℕ) → left ≤ limit → rest ≤ left
+    → Leads limit (limit - left) from m native trail
+    → ((counted : NativeState) → Begins (plain_of m.cpu.regs) counted trail → Leads left (left - rest) m after counted behind)
+    → Leads limit (limit - rest) from after native behind
+leads_behind limit left rest from m after native trail behind within fewer l later =
+    let s = later l.counted l.begins in record {
       counted = s.counted;
       begins = s.begins;
       retired = (let e = l.retired in let f = s.retired in omega arith);
       exceptions = s.exceptions ∙ l.exceptions;
       continues = λ n less.
-          let j : n - taken - more ≡ n - (taken + more) = omega arith in
+          let k = n - (limit - left) in
+          let j : k - (left - rest) ≡ n - (limit - rest) = omega arith in
           let r = about_to_run m l.counted (plain_of m.cpu.regs) in
-          continues_on n (n - taken) (n - (taken + more)) _ r _ (l.continues n less)
-          (subst (λ (k : ℕ). Continues (n - taken) r k (about_to_run after s.counted (plain_of after.cpu.regs))) j
-          (s.continues (n - taken) (omega arith)));
+          continues_on n k (n - (limit - rest)) _ r _ (l.continues n less)
+          (subst (λ (i : ℕ). Continues k r i (about_to_run after s.counted (plain_of after.cpu.regs))) j (s.continues k (omega arith)));
     }
 
--- The step behind them is the last of so many, or the run does not go on behind it.
-abbrev pub IsLast : ℕ → ℕ → Finish → Machine → Type 0
-IsLast limit taken f after = (taken + 1 ≡ limit) ⊎ (goes_on (ended_by f after) ≡ false)
+-- The next step is the last, or the run does not go on behind it.
+abbrev pub IsLast : (left : ℕ) (f : Finish) (after : Machine) → Type 0
+IsLast left f after = (left ≡ 0) ⊎ (goes_on (ended_by f after) ≡ false)
 
-pub run_ends : (limit taken : ℕ) (from m after : Machine) (f : Finish) (native : NativeState) (b : Plain) (trail : ℕ) → taken < limit
-    → (l : Leads (limit - 1) taken from m native trail) → (f, after) ≡ user_step m → IsLast limit taken f after
+pub run_ends : (limit left : ℕ) (from m after : Machine) (f : Finish) (native : NativeState) (b : Plain) (trail : ℕ) → left < limit
+    → (l : Leads (limit - 1) (limit - 1 - left) from m native trail) → (f, after) ≡ user_step m → IsLast left f after
     → Continues limit (about_to_run from native b) 0 (ran_by (f, after) (about_to_run m l.counted (plain_of m.cpu.regs)))
-run_ends limit taken from m after f native b trail less l step last =
+run_ends limit left from m after f native b trail less l step last =
     let p = plain_of from.cpu.regs in
+    let k = limit - (limit - 1 - left) in
     let r = about_to_run m l.counted (plain_of m.cpu.regs) in
     let ran = ran_by (f, after) r in
     let is : ran ≡ ran_by (user_step m) r = ap (λ (s : Finish × Machine). ran_by s r) step in
@@ -238,12 +241,12 @@ run_ends limit taken from m after f native b trail less l step last =
     let same = any_before limit from native p b (omega arith) in
     let fits = fits_any limit from native p b in
     elim last [
-      | inl one ↦ record {
-        run = run-none ran ∙ ends_last limit (limit - taken) (about_to_run from native p) r ran continues (omega arith) is ∙ same;
-        fit = λ none. fits (fit_last limit (limit - taken) (about_to_run from native p) r continues (omega arith) l.begins.fit);
+      | inl none ↦ record {
+        run = run-none ran ∙ ends_last limit k (about_to_run from native p) r ran continues (omega arith) is ∙ same;
+        fit = λ end. fits (fit_last limit k (about_to_run from native p) r continues (omega arith) l.begins.fit);
       }
       | inr off ↦ record {
-        run = run-none ran ∙ ends_behind limit (limit - taken) (about_to_run from native p) r ran continues (omega arith) is off ∙ same;
-        fit = λ none. fits (fit_behind limit (limit - taken) (about_to_run from native p) r ran continues (omega arith) is off l.begins.fit);
+        run = run-none ran ∙ ends_behind limit k (about_to_run from native p) r ran continues (omega arith) is off ∙ same;
+        fit = λ end. fits (fit_behind limit k (about_to_run from native p) r ran continues (omega arith) is off l.begins.fit);
       }
     ]

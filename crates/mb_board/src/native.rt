@@ -11,9 +11,6 @@ use std::marker::Model;
 /// 31 to the 18, modulo 2^64: a trail moves up by so much for the eighteen numbers of registers.
 const EIGHTEEN_PLACES: u64 = 0xACA1_9D5E_CDAA_61C1;
 
-/// Twice so many places.
-const THIRTY_SIX_PLACES: u64 = 0xF702_D5B1_13A7_D381;
-
 /// What eighteen places are to be multiplied by to become 1.
 const EIGHTEEN_PLACES_BACK: u64 = 0xA148_4A23_F44C_AE41;
 
@@ -50,9 +47,7 @@ pub(crate) fn entered(trail: u64, end: u64) -> u64
     ensures { (p q : Plain) → (native : NativeState) → Begins p native trail → Spell q end
         → Begins q (with_retired p q native) result }
 {
-    trail
-        .wrapping_mul(THIRTY_SIX_PLACES)
-        .wrapping_add(end.wrapping_mul(EIGHTEEN_PLACES + 1))
+    with_spelled(with_spelled(trail, end), end)
 }
 
 impl Native {

@@ -97,7 +97,7 @@ impl Core {
         true
     }
 
-    /// Takes calm steps of a run in user mode that are carried out at once, at most so many. Gives how many they are.
+    /// Takes calm steps of a run in user mode that are carried out at once, at most so many. Gives how many are left.
     #[inline(always)]
     fn run_at_once_for(&mut self, limit: u32, digits: &mut Digits, trail: &mut u64) -> u32
         requires calm { IsCalm self.old }
@@ -105,7 +105,7 @@ impl Core {
         requires digits { digits.old.sum ≡ without_flow (plain_of self.old.cpu.regs) }
         ensures within { result ≤ limit }
         ensures means { (native : NativeState) → Begins (plain_of self.old.cpu.regs) native trail.old
-            → Leads limit result self.old self.new native trail.new }
+            → Leads limit (limit - result) self.old self.new native trail.new }
         ensures digits { digits.new.sum ≡ without_flow (plain_of self.new.cpu.regs) }
         ensures ram { length self.new.world.ram ≡ length self.old.world.ram }
     {
@@ -116,25 +116,25 @@ impl Core {
             }
             left -= 1;
         }
-        limit - left
+        left
     }
 
     /// Takes steps of a run in user mode that are carried out at once, at most so many: none where the machine is not
-    /// calm. Gives how many they are.
+    /// calm. Gives how many are left.
     #[inline(always)]
     fn run_calmly(&mut self, limit: u32, digits: &mut Digits, trail: &mut u64) -> u32
         requires digits { digits.old.sum ≡ without_flow (plain_of self.old.cpu.regs) }
         ensures within { result ≤ limit }
         ensures means { (native : NativeState) → Begins (plain_of self.old.cpu.regs) native trail.old
-            → Leads limit result self.old self.new native trail.new }
+            → Leads limit (limit - result) self.old self.new native trail.new }
         ensures digits { digits.new.sum ≡ without_flow (plain_of self.new.cpu.regs) }
         ensures ram { length self.new.world.ram ≡ length self.old.world.ram }
     {
         if !self.is_calm() {
-            return 0;
+            return limit;
         }
         let Space::User = self.cpu.space() else {
-            return 0;
+            return limit;
         };
         self.run_at_once_for(limit, digits, trail)
     }
@@ -170,7 +170,7 @@ impl Core {
         let mut trail = native.begun(spelled);
         let mut left = limit - 1;
         loop {
-            left -= self.run_calmly(left, &mut digits, &mut trail);
+            left = self.run_calmly(left, &mut digits, &mut trail);
             let finish = self.run_on(before);
             if left == 0 || !self.goes_on(finish) {
                 let beginning = digits.spelling(before);
