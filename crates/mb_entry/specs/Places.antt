@@ -15,7 +15,7 @@ Covers Exists (Some s) places = AreOpen Exists (length s.bytes.items) places
 abbrev pub places_seen : Places → entry.Places
 places_seen p = record { first = p.first.items; second = p.second.items }
 
--- what a check of all frames answered
-abbrev pub placed : Result Places Fault → Result entry.Places Fault
-placed (Ok p) = Ok (places_seen p)
-placed (Err fault) = Err fault
+-- a check of all frames, with the places after it
+abbrev pub placed : Result (Unit {0}) Fault → Places → Result entry.Places Fault
+placed (Ok done) places = Ok (places_seen places)
+placed (Err fault) places = Err fault

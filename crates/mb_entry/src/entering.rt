@@ -5,7 +5,7 @@ ghost use Rattle.mb_port.specs.Routine.{run};
 ghost use Rattle.def_processor.specs.Entry.{frames_of, check_frames_of, go_to_handler_of, unstacked, enter_of};
 ghost use Rattle.mb_entry.specs.Clauses.{RegsAfter, LeavesCpu, IfFaulted, IfHalted, IsUnread, IsDoubleFault};
 
-use crate::places::{check_frames, put_frames};
+use crate::places::{Places, check_frames, put_frames};
 use crate::stacking::{frames_for, offset, set_handler_regs};
 use def_processor::{Cause, Entered};
 use mb_ea::read_value;
@@ -69,9 +69,10 @@ pub fn enter<P: Port>(cpu: &mut Cpu, port: &mut P, cause: &Cause) -> Entered
     ensures rest { P.rest port.new ≡ P.rest port.old }
 {
     let frames = frames_for(cause, &cpu.regs);
+    let mut places = Places::new();
     cpu.stopped = false;
-    match check_frames(&frames, port) {
-        Ok(places) => {
+    match check_frames(&frames, &mut places, port) {
+        Ok(()) => {
             put_frames(&frames, &places, port);
             set_handler_regs(cause, &frames, &mut cpu.regs);
             go_to_handler(cause, cpu, port)

@@ -1,9 +1,9 @@
 //! Frames are checked for writing, and then written at the checked places.
 
-ghost use Rattle.std.specs.Prelude.{◌≡◌, ◌≤◌, ◌+◌, length, All, IfOk, OnOk};
+ghost use Rattle.std.specs.Prelude.{◌≡◌, ◌≤◌, ◌+◌, [], length, All, OnOk};
 ghost use Rattle.mb_port.specs.Routine.{run};
 ghost use Rattle.mb_port.specs.Pieces.{IsLength, cut};
-ghost use Rattle.mb_writes.specs.Checked.{probe_pieces_of, byte_count, probed, located, IsOpen, AreOpen};
+ghost use Rattle.mb_writes.specs.Checked.{probe_pieces_of, byte_count, probed, IsOpen, AreOpen};
 ghost use Rattle.def_processor.specs.Entry.{probe_frame_of, probe_second_of, put_bytes_of, put_second_of, check_frames_of, put_frames_of};
 ghost use Rattle.mb_entry.specs.Stacks.{seen, seen_second, frames_seen};
 ghost use Rattle.byteorder.specs.Endian.{big_number};
@@ -23,6 +23,18 @@ const MOST_PIECES: usize = LONGEST / 4 + 2;
 pub(crate) struct Places {
     first: ArrayVec<Place, MOST_PIECES>,
     second: ArrayVec<Place, MOST_PIECES>,
+}
+
+impl Places {
+    /// None.
+    pub(crate) fn new() -> Places
+        ensures { (result.first.items ≡ []) × (result.second.items ≡ []) }
+    {
+        Places {
+            first: ArrayVec::new(),
+            second: ArrayVec::new(),
+        }
+    }
 }
 
 /// Checks `len` bytes from `at` on for writing, in pieces. Where each stands comes behind the places so far.
@@ -51,52 +63,58 @@ fn probe_bytes<P: Port>(
     Ok(())
 }
 
-/// Checks a frame for writing. The answer is where its pieces stand.
+/// Checks a frame for writing. Where its pieces stand comes to `places`.
 #[tactic(auto, using(crate::proofs::Few::few_pieces))]
 fn probe_frame<P: Port>(
     frame: &Stacked,
+    places: &mut ArrayVec<Place, MOST_PIECES>,
     port: &mut P,
-) -> Result<ArrayVec<Place, MOST_PIECES>, Fault>
+) -> Result<(), Fault>
+    requires none { places.old.items ≡ [] }
     ensures means { run P.bus (probe_frame_of (seen frame.now)) (P.world port.old)
-        ≡ (located result, P.world port.new) }
-    ensures open { IfOk result (λ places.
-        AreOpen (P.exists (P.rest port.new)) (length frame.now.bytes.items) places.items) }
+        ≡ (probed result places.new.items, P.world port.new) }
+    ensures open { OnOk result
+        (AreOpen (P.exists (P.rest port.new)) (length frame.now.bytes.items) places.new.items) }
     ensures rest { P.rest port.new ≡ P.rest port.old }
 {
-    let mut places = ArrayVec::new();
-    probe_bytes(frame.at, frame.bytes.len() as u8, &mut places, port)?;
-    Ok(places)
+    probe_bytes(frame.at, frame.bytes.len() as u8, places, port)
 }
 
 /// Checks a second frame for writing, where there is one.
 fn probe_second<P: Port>(
     second: &Option<Stacked>,
+    places: &mut ArrayVec<Place, MOST_PIECES>,
     port: &mut P,
-) -> Result<ArrayVec<Place, MOST_PIECES>, Fault>
+) -> Result<(), Fault>
+    requires none { places.old.items ≡ [] }
     ensures means { run P.bus (probe_second_of (seen_second second.now)) (P.world port.old)
-        ≡ (located result, P.world port.new) }
-    ensures open { IfOk result (λ places. Covers (P.exists (P.rest port.new)) second.now places.items) }
+        ≡ (probed result places.new.items, P.world port.new) }
+    ensures open { OnOk result (Covers (P.exists (P.rest port.new)) second.now places.new.items) }
     ensures rest { P.rest port.new ≡ P.rest port.old }
 {
     match second {
-        None => Ok(ArrayVec::new()),
-        Some(frame) => probe_frame(frame, port),
+        None => Ok(()),
+        Some(frame) => probe_frame(frame, places, port),
     }
 }
 
-/// Checks every piece of every frame for writing.
-pub(crate) fn check_frames<P: Port>(frames: &Frames, port: &mut P) -> Result<Places, Fault>
+/// Checks every piece of every frame for writing. Where they stand comes to `places`.
+pub(crate) fn check_frames<P: Port>(
+    frames: &Frames,
+    places: &mut Places,
+    port: &mut P,
+) -> Result<(), Fault>
+    requires none { (places.old.first.items ≡ []) × (places.old.second.items ≡ []) }
     ensures means { run P.bus (check_frames_of (frames_seen frames.now)) (P.world port.old)
-        ≡ (placed result, P.world port.new) }
-    ensures first { IfOk result (λ places.
-        AreOpen (P.exists (P.rest port.new)) (length frames.now.first.bytes.items) places.first.items) }
-    ensures second { IfOk result (λ places.
-        Covers (P.exists (P.rest port.new)) frames.now.second places.second.items) }
+        ≡ (placed result places.new, P.world port.new) }
+    ensures first { OnOk result
+        (AreOpen (P.exists (P.rest port.new)) (length frames.now.first.bytes.items) places.new.first.items) }
+    ensures second { OnOk result
+        (Covers (P.exists (P.rest port.new)) frames.now.second places.new.second.items) }
     ensures rest { P.rest port.new ≡ P.rest port.old }
 {
-    let first = probe_frame(&frames.first, port)?;
-    let second = probe_second(&frames.second, port)?;
-    Ok(Places { first, second })
+    probe_frame(&frames.first, &mut places.first, port)?;
+    probe_second(&frames.second, &mut places.second, port)
 }
 
 /// The big-endian number that a piece's bytes spell.

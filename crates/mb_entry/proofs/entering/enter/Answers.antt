@@ -16,7 +16,7 @@ returns-in-Err-clause-unwritten g c =
 pub returns-in-Ok-clause-halts : goal.returns-in-Ok-clause-halts
 returns-in-Ok-clause-halts g c =
     let frames = frames_seen c.frames_for-frames.result in
-    let places = places_seen c.in-Ok.places in
+    let places = places_seen c.check_frames.new.places in
     let is : frames ≡ frames_of c.args.cause.now c.args.cpu.now.regs = c.frames_for-frames.ensures in
     let put : g.P.Port.world c.put_frames.new.port ≡ (run g.P.Port.bus (put_frames_of frames places) (g.P.Port.world c.check_frames.new.port)).1 =
     ap (λ q. q.1) (sym c.put_frames.ensures.means) in
