@@ -12,10 +12,9 @@ ghost use Rattle.law_turns.specs.Lawful.{IsLawfulLeftOver, LeavesLawful};
 ghost use Rattle.vm_guest.specs.Rests.{rest_in, IsLawfulRest};
 
 use crate::classes::is_refusal;
-use arrayvec::ArrayVec;
 use def_processor::StepEnd;
 use mb_entry::Cause;
-use mb_frames::{Frame, Pend};
+use mb_frames::Frame;
 use mb_instr::{Plain, Regs};
 use mb_model::Cpu;
 use mb_port::Port;
@@ -28,30 +27,9 @@ pub(crate) enum Rest {
     /// The step is carried out from the registers before it.
     Whole,
     /// The exception of an instruction that traps is entered.
-    Trap {
-        vector: u8,
-        after: Plain,
-    },
-    /// Pieces of an operand, whose first byte is at `first`, are written.
-    Writes {
-        pending: ArrayVec<Pend, 3>,
-        first: u32,
-        after: Plain,
-    },
-    /// The line of a MOVE16 is written.
-    Line {
-        at: u32,
-        line: [u32; 4],
-        after: Plain,
-    },
-    /// A MOVEM goes on behind the first `done` transfers.
-    Movem {
-        words: u32,
-        ea: u32,
-        done: u8,
-        next: u32,
-        after: Plain,
-    },
+    Trap { vector: u8, after: Plain },
+    /// What an access error left is carried out.
+    Access { left: LeftOver, after: Plain },
 }
 
 /// The guest's registers as the board hands them back: D, A and USP are its own, PC and the condition codes those of
@@ -74,37 +52,45 @@ fn handed(regs: &Regs, frame: &Frame) -> Plain
     }
 }
 
-impl Rest {
-    /// What an access error left.
-    fn of_access(left: LeftOver, after: Plain) -> Rest
-        requires lawful { IsLawfulLeftOver left }
-        ensures means { (level : ℕ) (cpu : CpuValue)
-            → SameOver Guest (rest_in result level cpu) (rest_by left level cpu after) }
-        ensures lawful { IsLawfulRest result }
-    {
-        match left {
-            LeftOver::Again => Rest::Whole,
-            LeftOver::Writes { pending, first } => Rest::Writes {
-                pending,
-                first,
-                after,
-            },
-            LeftOver::Line { at, line } => Rest::Line { at, line, after },
-            LeftOver::Movem {
-                words,
-                ea,
-                done,
-                next,
-            } => Rest::Movem {
-                words,
-                ea,
-                done,
-                next,
-                after,
-            },
+/// Carries out what an access error left, from the processor before the step and the registers that the board hands
+/// back.
+fn finish<P: Port>(
+    left: &LeftOver,
+    after: &Plain,
+    decoder: &mut Decoder,
+    cpu: &mut Cpu,
+    port: &mut P,
+    level: u8,
+) -> StepEnd
+    requires level { level < 8 }
+    requires lawful { IsLawfulLeftOver left.now }
+    ensures means { by_its_end (run P.bus (rest_by left.now level cpu.old after.now) (P.world port.old))
+        ≡ ((result, cpu.new), P.world port.new) }
+    ensures rest { P.rest port.new ≡ P.rest port.old }
+{
+    match left {
+        LeftOver::Again => step_to_finish(decoder, cpu, port, level).step_end(),
+        LeftOver::Writes { pending, first } => {
+            cpu.regs.set_plain(after);
+            finish_writes(pending, *first, cpu, port)
+        }
+        LeftOver::Line { at, line } => {
+            cpu.regs.set_plain(after);
+            finish_line(*at, *line, cpu, port)
+        }
+        LeftOver::Movem {
+            words,
+            ea,
+            done,
+            next,
+        } => {
+            cpu.regs.set_plain(after);
+            finish_movem(*words, *ea, *done, *next, cpu, port)
         }
     }
+}
 
+impl Rest {
     /// What a board left that entered this vector, by the frame that it stacked and its registers then.
     pub(crate) fn left(vector: u8, frame: &Frame, regs: &Regs) -> Rest
         requires lawful { LeavesLawful (frame_access frame.now) }
@@ -112,11 +98,16 @@ impl Rest {
             (rest_by_frame vector (frame_access frame.now) level cpu (handed_by regs.now frame.now)) }
         ensures lawful { IsLawfulRest result }
     {
-        let after = handed(regs, frame);
         match frame {
-            Frame::Access { access, .. } => Rest::of_access(left_in(access), after),
+            Frame::Access { access, .. } => Rest::Access {
+                left: left_in(access),
+                after: handed(regs, frame),
+            },
             _ if is_refusal(vector) => Rest::Whole,
-            _ => Rest::Trap { vector, after },
+            _ => Rest::Trap {
+                vector,
+                after: handed(regs, frame),
+            },
         }
     }
 
@@ -148,28 +139,7 @@ impl Rest {
                 cpu.regs.set_plain(after);
                 finish_trap(&cause, &before, cpu, port)
             }
-            Rest::Writes {
-                pending,
-                first,
-                after,
-            } => {
-                cpu.regs.set_plain(after);
-                finish_writes(pending, *first, cpu, port)
-            }
-            Rest::Line { at, line, after } => {
-                cpu.regs.set_plain(after);
-                finish_line(*at, *line, cpu, port)
-            }
-            Rest::Movem {
-                words,
-                ea,
-                done,
-                next,
-                after,
-            } => {
-                cpu.regs.set_plain(after);
-                finish_movem(*words, *ea, *done, *next, cpu, port)
-            }
+            Rest::Access { left, after } => finish(left, after, decoder, cpu, port, level),
         }
     }
 }
