@@ -36,6 +36,15 @@ bytes_of_both (f ∷ fs) gs =
     ap (λ (b : List ℕ). big_bytes f.size f.value ++ b) (bytes_of_both fs gs)
     ∙ sym (append_assoc (big_bytes f.size f.value) (bytes_of_fields fs) (bytes_of_fields gs))
 
+-- bytes behind which those of fields come, one after the other
+abbrev pub with_fields : List ℕ → List Field → List ℕ
+with_fields b [] = b
+with_fields b (f ∷ fs) = with_fields (b ++ big_bytes f.size f.value) fs
+
+pub one_by_one : (b : List ℕ) (fs : List Field) → with_fields b fs ≡ b ++ bytes_of_fields fs
+one_by_one b [] = sym (append-nil b)
+one_by_one b (f ∷ fs) = one_by_one (b ++ big_bytes f.size f.value) fs ∙ append_assoc b (big_bytes f.size f.value) (bytes_of_fields fs)
+
 -- where the bytes of the fields stand, each field stands
 pub fields_stand : (b : List ℕ) (fs : List Field) (place : ℕ) (rest : List ℕ) → AreAdjacent place fs
     → drop place b ≡ bytes_of_fields fs ++ rest → AllByRecursion (StandsIn b) fs

@@ -2,4 +2,3 @@ pub mod Layout
 pub mod Reading
 pub mod AccessFields
 pub mod Worked
-pub mod Values

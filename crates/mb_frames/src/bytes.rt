@@ -1,21 +1,38 @@
 //! Frames as bytes.
 
 ghost use Rattle.std.specs.Prelude.{◌≡◌, ℕ, nat_le, if◌then◌else◌, ◌+◌, ◌*◌, ◌^◌, ◌<◌, ◌≤◌, ◌++◌, List, length, All, Some, IsNone, IfSome, ◌↔◌, ◌⊎◌};
-ghost use Rattle.std.specs.List.{flat_map};
 ghost use Rattle.arrayvec.specs.ArrayVec.{array_vec_len};
 ghost use Rattle.byteorder.specs.Endian.{big_bytes};
 ghost use Rattle.mb_frames.specs.declared.frame.Frame.{Frame};
 ghost use Rattle.mb_frames.specs.declared.places.TheConstants.{LONGEST};
 ghost use Rattle.mb_frames.specs.Layout.{BeginsWith, Fits, IsFormat, IsFrame, bytes_of_fields, fields_of, fields_of_access, format_of, frame_bytes, frame_length, head, vector_offset_of, StandsIn};
-ghost use Rattle.mb_frames.specs.Values.{IsInBytes, value_bytes};
 ghost use Rattle.mb_frames.specs.Reading.{access_in, format_in, frame_in, frame_of_format, long_at, word_at};
 
 use crate::frame::{Access, Frame, access_fields};
 use crate::places::{LONGEST, LONGS};
 use crate::source::{FieldSource, access_by};
-use crate::value::{Value, push, push_all};
 use arrayvec::ArrayVec;
 use byteorder::{BigEndian, ByteOrder};
+
+/// Appends a word, the higher byte first. It fits, by its type.
+fn push_word(bytes: &mut ArrayVec<u8, LONGEST>, word: u16)
+    requires { array_vec_len bytes.old + 2 ≤ LONGEST }
+    ensures bytes { bytes.new.items ≡ bytes.old.items ++ big_bytes 2 word }
+    ensures len { array_vec_len bytes.new ≡ array_vec_len bytes.old + 2 }
+    ensures fits { word < 256 ^ 2 }
+{
+    bytes.try_extend_from_slice(&word.to_be_bytes()).unwrap();
+}
+
+/// Appends a long, the highest byte first. It fits, by its type.
+fn push_long(bytes: &mut ArrayVec<u8, LONGEST>, long: u32)
+    requires { array_vec_len bytes.old + 4 ≤ LONGEST }
+    ensures bytes { bytes.new.items ≡ bytes.old.items ++ big_bytes 4 long }
+    ensures len { array_vec_len bytes.new ≡ array_vec_len bytes.old + 4 }
+    ensures fits { long < 256 ^ 4 }
+{
+    bytes.try_extend_from_slice(&long.to_be_bytes()).unwrap();
+}
 
 /// Appends what every frame begins with: the status register, the program counter, the format word.
 fn push_head(bytes: &mut ArrayVec<u8, LONGEST>, sr: u16, pc: u32, format: u16, offset: u16)
@@ -25,22 +42,22 @@ fn push_head(bytes: &mut ArrayVec<u8, LONGEST>, sr: u16, pc: u32, format: u16, o
     ensures bytes { bytes.new.items ≡ bytes.old.items ++ bytes_of_fields (head sr pc format offset) }
     ensures fits { All Fits (head sr pc format offset) }
 {
-    let format_word = format * 0x1000 + offset;
-    push_all(
-        bytes,
-        &[Value::Word(sr), Value::Long(pc), Value::Word(format_word)],
-    );
+    push_word(bytes, sr);
+    push_long(bytes, pc);
+    push_word(bytes, format * 0x1000 + offset);
 }
 
-/// The value of a field, by what its line says.
-macro_rules! value {
-    (word $value:expr) => { Value::Word($value) };
-    (long $value:expr) => { Value::Long($value) };
+/// Appends a field, by what its line says.
+macro_rules! push {
+    (word $bytes:ident $value:expr) => { push_word($bytes, $value) };
+    (long $bytes:ident $value:expr) => { push_long($bytes, $value) };
 }
 
-/// The values of all fields of an access error.
-macro_rules! value_of_each {
-    ($access:ident; $($name:ident: $size:ident at $place:literal,)*) => { [$(value!($size $access.$name)),*] };
+/// Appends all fields of an access error.
+macro_rules! push_each {
+    ($bytes:ident, $access:ident; $($name:ident: $size:ident at $place:literal,)*) => {
+        $(push!($size $bytes $access.$name);)*
+    };
 }
 
 /// Appends the fields of an access error. They fit, by their types.
@@ -49,7 +66,7 @@ fn push_access(bytes: &mut ArrayVec<u8, LONGEST>, access: Access)
     ensures bytes { bytes.new.items ≡ bytes.old.items ++ bytes_of_fields (fields_of_access access) }
     ensures fits { All Fits (fields_of_access access) }
 {
-    push_all(bytes, &access_fields!(value_of_each, access));
+    access_fields!(push_each, bytes, access);
 }
 
 /// Appends a frame.
@@ -70,7 +87,7 @@ fn push_frame(bytes: &mut ArrayVec<u8, LONGEST>, f: &Frame)
             address,
         } => {
             push_head(bytes, sr, pc, 2, offset);
-            push(bytes, Value::Long(address));
+            push_long(bytes, address);
         }
         Frame::Access {
             sr,

@@ -68,11 +68,11 @@ pub struct Access {
 
 /// The fields of [`Access`] in the order of the frame. A line says of a field its name, whether it is a word or a long,
 /// and its place in the frame. `access_fields!(each, it)` hands all lines to the macro `each`, behind the variable
-/// `it`.
+/// `it`, or behind several.
 macro_rules! access_fields {
-    ($each:ident, $it:ident) => {
+    ($each:ident, $($it:ident),*) => {
         $each! {
-            $it;
+            $($it),*;
             ea: long at 0x08,
             ssw: word at 0x0c,
             wb3s: word at 0x0e,

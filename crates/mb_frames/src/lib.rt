@@ -11,7 +11,6 @@ mod pend;
 mod places;
 mod source;
 mod status_bits;
-mod value;
 
 pub use bytes::{from_bytes, to_bytes};
 pub use frame::{Access, Frame};
