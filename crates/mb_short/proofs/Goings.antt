@@ -9,15 +9,10 @@ use Rattle.def_instructions.specs.Ends.{carried}
 use Rattle.def_instructions.specs.Rows.{row_of}
 use Rattle.mb_table.specs.declared.short.Short.{Short}
 use Rattle.mb_table.specs.Short.{meaning, meaning_with}
-use Rattle.mb_short.specs.Taken.{Comes, Goes, GoesBy, RowBy, IsDone}
+use Rattle.mb_short.specs.Taken.{Comes, Goes, GoesBy, IsDone}
 use Rattle.mb_short.proofs.Moves.{goes}
 
 -- a row that is carried out is its instruction
-pub row_goes : {S : Type 0} (bus : Bus S) (m : Option Instr) (space : Space) (p q : Plain) (s : S)
-    → RowBy bus m p.pc space (past 1 p) s q → GoesBy bus m 1 space p s false q s
-row_goes bus None space p q s h = h
-row_goes bus (Some i) space p q s h = goes bus i p.pc space (past 1 p) q false s s h
-
 pub one_goes : {S : Type 0} (bus : Bus S) (i : Instr) (space : Space) (p q : Plain) (s t : S)
     → run bus (row_of i p.pc space (past 1 p)) s ≡ (carried q, t) → Goes bus i 1 space p s false q t
 one_goes bus i space p q s t h = goes bus i p.pc space (past 1 p) q false s t h
@@ -45,6 +40,6 @@ pub by_if : {S : Type 0} (bus : Bus S) (form : Short) (space : Space) (p q : Pla
 by_if bus form space p q s t None h = h
 by_if bus form space p q s t (Some flow) h = inl h
 
-pub ruleset goings = (row_goes, one_goes, two_go)
+pub ruleset goings = (one_goes, two_go)
 
 pub ruleset endings = (alone_if, with_if, by_if)

@@ -37,34 +37,9 @@ with_step (place.At m) c = c
 with_step (place.Up m) c = with_address m c
 with_step (place.Down m) c = with_address m c
 
--- what the instruction of a short form may change
+-- what the instruction of a short form that comes less often may change
 abbrev pub changed_of : Short → Changed
-changed_of (short.MoveQuick n value) = Data n
-changed_of (short.CopyLong n m) = Data n
-changed_of (short.AddLong n m) = Data n
-changed_of (short.SubtractLong n m) = Data n
-changed_of (short.AndLong n m) = Data n
-changed_of (short.OrLong n m) = Data n
-changed_of (short.ExclusiveOrLong n m) = Data n
-changed_of (short.CompareLong n m) = Data n
-changed_of (short.MultiplyUnsigned n m) = Data n
-changed_of (short.MultiplySigned n m) = Data n
-changed_of (short.ShiftRightLong n count) = Data n
-changed_of (short.AddQuickLong n quick) = Data n
-changed_of (short.SubtractQuickLong n quick) = Data n
-changed_of (short.TestLong n) = Data n
-changed_of (short.Swap n) = Data n
-changed_of (short.ExtendWord n) = Data n
-changed_of (short.RaiseAddress size n quick) = Address n
-changed_of (short.LowerAddress size n quick) = Address n
-changed_of (short.LoadLong n m) = Data n
-changed_of (short.Loop c n) = Data n
-changed_of (short.StoreLong n m) = Nothing
 changed_of (short.PutNear putting size m) = Nothing
-changed_of (short.LoadLongUp n m) = Both n m
-changed_of (short.StoreLongUp n m) = Address m
-changed_of (short.Branch c d) = Nothing
-changed_of (short.BranchFar c) = Nothing
 changed_of (short.TakeRegister taking size register) = taken_in taking
 changed_of (short.TakeMemory taking size at) = with_step at (taken_in taking)
 changed_of (short.TakeNear taking size m) = taken_in taking

@@ -5,8 +5,8 @@ use Rattle.mb_port.specs.declared.types.Space.{Space}
 use Rattle.mb_instr.specs.declared.instruction.Instr.{Instr}
 use Rattle.mb_instr.specs.declared.registers.Plain.{Plain}
 use Rattle.def_instructions.specs.Attempt.{past}
-use Rattle.def_instructions.specs.Ends.{Performed, carried}
-use Rattle.def_instructions.specs.Rows.{row_of, perform_of}
+use Rattle.def_instructions.specs.Ends.{Performed}
+use Rattle.def_instructions.specs.Rows.{perform_of}
 use Rattle.mb_table.specs.declared.short.Short.{Short}
 use Rattle.mb_table.specs.Short.{meaning, meaning_with}
 
@@ -21,11 +21,6 @@ Goes bus i n space p s flow q t = run bus (perform_of i p.pc space (past n p)) s
 abbrev pub GoesBy : {S : Type 0} → Bus S → Option Instr → ℕ → Space → Plain → S → Bool → Plain → S → Type 0
 GoesBy bus (Some i) n space p s flow q t = Goes bus i n space p s flow q t
 GoesBy bus None n space p s flow q t = ⊥
-
--- the row of an instruction is carried out, and the next one follows
-abbrev pub RowBy : {S : Type 0} → Bus S → Option Instr → ℕ → Space → Plain → S → Plain → Type 0
-RowBy bus (Some i) at space p s q = run bus (row_of i at space p) s ≡ (carried q, s)
-RowBy bus None at space p s q = ⊥
 
 -- the second word came, and the state is the same
 abbrev pub Comes : {S : Type 0} → Bus S → Space → Plain → S → ℕ → Type 0

@@ -65,45 +65,16 @@ fn taken_in(taking: Taking) -> Changed
     }
 }
 
-/// What the instruction of a short form may change.
+/// What the instruction of a short form that comes less often may change.
 #[inline(always)]
 pub(crate) fn changed_by(short: &Short) -> Changed
     ensures { result ≡ changed_of short.now }
 {
     match *short {
-        Short::MoveQuick { register, .. }
-        | Short::CopyLong { register, .. }
-        | Short::AddLong { register, .. }
-        | Short::SubtractLong { register, .. }
-        | Short::AndLong { register, .. }
-        | Short::OrLong { register, .. }
-        | Short::ExclusiveOrLong { register, .. }
-        | Short::CompareLong { register, .. }
-        | Short::MultiplyUnsigned { register, .. }
-        | Short::MultiplySigned { register, .. }
-        | Short::ShiftRightLong { register, .. }
-        | Short::AddQuickLong { register, .. }
-        | Short::SubtractQuickLong { register, .. }
-        | Short::TestLong { register }
-        | Short::Swap { register }
-        | Short::ExtendWord { register }
-        | Short::LoadLong { register, .. }
-        | Short::Loop { register, .. }
-        | Short::Change { register, .. } => Changed::Data(register),
-        Short::RaiseAddress { register, .. }
-        | Short::LowerAddress { register, .. }
-        | Short::AddressNear { register, .. } => Changed::Address(register),
-        Short::LoadLongUp { register, base } => Changed::Both {
-            data: register,
-            address: base,
-        },
-        Short::StoreLongUp { base, .. } => Changed::Address(base),
+        Short::Change { register, .. } => Changed::Data(register),
+        Short::AddressNear { register, .. } => Changed::Address(register),
         Short::Return | Short::Call { .. } | Short::CallFar => Changed::Address(7),
-        Short::StoreLong { .. }
-        | Short::PutNear { .. }
-        | Short::UpdateNear { .. }
-        | Short::Branch { .. }
-        | Short::BranchFar { .. } => Changed::Nothing,
+        Short::PutNear { .. } | Short::UpdateNear { .. } => Changed::Nothing,
         Short::TakeRegister { taking, .. } | Short::TakeNear { taking, .. } => taken_in(taking),
         Short::TakeMemory { taking, place, .. } => taken_in(taking).with_step(place),
         Short::PutMemory { place, .. }

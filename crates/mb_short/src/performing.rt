@@ -14,7 +14,7 @@ use crate::changing::change_register;
 use crate::copying::copy_near;
 use crate::following::{Follower, follow, values_of};
 use crate::putting::{put_memory, put_near};
-use crate::registers::{perform_in_address, perform_in_data};
+use crate::registers::{perform_between_data, perform_in_address, perform_in_data};
 use crate::stack::{call_far, call_near, link, return_from, unlink};
 use crate::taking::{take_memory, take_near, take_register};
 use crate::updating::{update_memory, update_near};
@@ -155,24 +155,15 @@ pub fn perform_short<P: Port, F: Follower, Loop>(
 {
     match *short {
         Short::Unknown | Short::Other => None,
-        Short::MoveQuick { register, .. } | Short::CopyLong { register, .. } | Short::AddLong { register, .. }
-        | Short::SubtractLong { register, .. } | Short::AndLong { register, .. } | Short::OrLong { register, .. }
-        | Short::ExclusiveOrLong { register, .. } | Short::CompareLong { register, .. }
-        | Short::MultiplyUnsigned { register, .. } | Short::MultiplySigned { register, .. }
-        | Short::ShiftRightLong { register, .. } | Short::AddQuickLong { register, .. }
-        | Short::SubtractQuickLong { register, .. } | Short::TestLong { register } | Short::Swap { register }
-        | Short::ExtendWord { register } => {
-            let before = plain.d[register as usize];
-            let flow = perform_in_data::<_, Loop>(short, space, plain, port)?;
-            follower.data(register, before, plain);
-            Some(flow)
-        }
-        Short::RaiseAddress { register, .. } | Short::LowerAddress { register, .. } => {
-            let before = plain.a[register as usize];
-            let flow = perform_in_address(short, space, plain, port)?;
-            follower.address(register, before, plain);
-            Some(flow)
-        }
+        Short::CopyLong { .. } | Short::AddLong { .. } | Short::SubtractLong { .. } | Short::AndLong { .. }
+        | Short::OrLong { .. } | Short::ExclusiveOrLong { .. } | Short::CompareLong { .. }
+        | Short::MultiplyUnsigned { .. } | Short::MultiplySigned { .. } =>
+            perform_between_data::<_, _, Loop>(short, space, plain, port, follower),
+        Short::MoveQuick { .. } | Short::ShiftRightLong { .. } | Short::AddQuickLong { .. }
+        | Short::SubtractQuickLong { .. } | Short::TestLong { .. } | Short::Swap { .. } | Short::ExtendWord { .. } =>
+            perform_in_data::<_, _, Loop>(short, space, plain, port, follower),
+        Short::RaiseAddress { .. } | Short::LowerAddress { .. } =>
+            perform_in_address(short, space, plain, port, follower),
         Short::LoadLong { register, base } => {
             let word = second_word(space, plain, port)?;
             let before = plain.d[register as usize];

@@ -18,6 +18,33 @@ pub enum Short {
         register: u8,
         immediate: u8,
     },
+    /// `LSR.L #count,Dn`.
+    ShiftRightLong {
+        register: u8,
+        count: u8,
+    },
+    /// `ADDQ.L #quick,Dn`.
+    AddQuickLong {
+        register: u8,
+        quick: u8,
+    },
+    /// `SUBQ.L #quick,Dn`.
+    SubtractQuickLong {
+        register: u8,
+        quick: u8,
+    },
+    /// `TST.L Dn`.
+    TestLong {
+        register: u8,
+    },
+    /// `SWAP`.
+    Swap {
+        register: u8,
+    },
+    /// `EXT.L`.
+    ExtendWord {
+        register: u8,
+    },
     /// `MOVE.L Dm,Dn`.
     CopyLong {
         register: u8,
@@ -63,10 +90,17 @@ pub enum Short {
         register: u8,
         source: u8,
     },
-    /// `LSR.L #count,Dn`.
-    ShiftRightLong {
+    /// `ADDQ #quick,An`.
+    RaiseAddress {
+        size: Size,
         register: u8,
-        count: u8,
+        quick: u8,
+    },
+    /// `SUBQ #quick,An`.
+    LowerAddress {
+        size: Size,
+        register: u8,
+        quick: u8,
     },
     /// `MOVE.L (d16,An),Dn`; the second word is the displacement.
     LoadLong {
@@ -100,20 +134,6 @@ pub enum Short {
     /// `DBcc`; the second word is the displacement.
     Loop {
         condition: Condition,
-        register: u8,
-    },
-    /// `ADDQ.L #quick,Dn`.
-    AddQuickLong {
-        register: u8,
-        quick: u8,
-    },
-    /// `SUBQ.L #quick,Dn`.
-    SubtractQuickLong {
-        register: u8,
-        quick: u8,
-    },
-    /// `TST.L Dn`.
-    TestLong {
         register: u8,
     },
     /// An operand in a register is read.
@@ -168,26 +188,6 @@ pub enum Short {
     Change {
         change: Change,
         size: Size,
-        register: u8,
-    },
-    /// `ADDQ #quick,An`.
-    RaiseAddress {
-        size: Size,
-        register: u8,
-        quick: u8,
-    },
-    /// `SUBQ #quick,An`.
-    LowerAddress {
-        size: Size,
-        register: u8,
-        quick: u8,
-    },
-    /// `SWAP`.
-    Swap {
-        register: u8,
-    },
-    /// `EXT.L`.
-    ExtendWord {
         register: u8,
     },
     /// `LEA (d16,An),Am`; the second word is the displacement.
