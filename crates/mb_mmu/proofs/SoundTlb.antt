@@ -1,5 +1,5 @@
 -- A micro-TLB by whose entries accesses lead.
-use Rattle.std.proofs.Common.{◌≡◌, ◌≢◌, ◌∙◌, ap, sym, refl, subst, ℕ, zero, suc, ◌%◌, ◌^◌, ◌<◌, ◌⊎◌, inl, inr, arith}
+use Rattle.std.proofs.Common.{◌≡◌, ◌≢◌, ◌∙◌, ap, sym, refl, subst, ℕ, zero, suc, ◌+◌, ◌%◌, ◌^◌, ◌<◌, ◌⊎◌, inl, inr, arith}
 use Rattle.std.proofs.Common.{Bool, true, false, List, [], ◌∷◌, get_or, set}
 use Rattle.std.specs.Prelude.{Option, Some, None, IfSome, replicate, ◌&&◌, ◌==◌}
 use Rattle.std.proofs.lemmas.List.{get_or-set_other}
@@ -16,7 +16,7 @@ use Rattle.mb_mmu.specs.declared.micro_tlb.Entries.{Entries}
 use Rattle.mb_mmu.specs.declared.micro_tlb.MicroTlb.{MicroTlb}
 use Rattle.mb_mmu.specs.State.{Translation, settled_by}
 use Rattle.mb_mmu.specs.MicroTlb.{place_by, empty, none, nothing, entry_in, entries_for, entry_for, with_in, with_entries, with_entry}
-use Rattle.mb_mmu.specs.MicroTlb.{without_page, without_page_in}
+use Rattle.mb_mmu.specs.MicroTlb.{without_class, without_class_in, without_class_of}
 use Rattle.mb_mmu.specs.Sound.{LeadsIntoRam, IsAccess, IsSound}
 use Rattle.mb_mmu.proofs.ByPage.{IsTrueFor}
 
@@ -53,8 +53,8 @@ empty_leads : (t : Translation) (r : Reference) (e : Entry) → r.at < 2 ^ 32 �
 empty_leads t r e less is = subst (Leads t r) (sym is) (rw (no_page r.at less) tt)
 
 none_found : (space : Space) (at : ℕ) → entry_in none space at ≡ empty
-none_found User at = of_copies 16 (page_of at % 16) empty
-none_found Super at = of_copies 16 (page_of at % 16) empty
+none_found User at = of_copies 64 (page_of at % 64) empty
+none_found Super at = of_copies 64 (page_of at % 64) empty
 
 nothing_found : (code write : Bool) (space : Space) (at : ℕ) → entry_in (entries_for code write nothing) space at ≡ empty
 nothing_found true write space at = none_found space at
@@ -69,10 +69,10 @@ nothing_sound t = record { leads = λ r access less. empty_leads t r (entry_for 
 -- what is so of an entry that is set in a space, and of the one that stood there, is so of what is found
 in_space : (P : Entry → Type 0) (e : Entries) (space s : Space) (entry : Entry) (at : ℕ) → (space ≡ s → P entry) → P (entry_in e s at)
     → P (entry_in (with_in e space entry) s at)
-in_space P e User User entry at new old = set_keeps P e.user (entry.page % 16) (page_of at % 16) entry empty (new refl) old
+in_space P e User User entry at new old = set_keeps P e.user (entry.page % 64) (page_of at % 64) entry empty (new refl) old
 in_space P e User Super entry at new old = old
 in_space P e Super User entry at new old = old
-in_space P e Super Super entry at new old = set_keeps P e.supervisor (entry.page % 16) (page_of at % 16) entry empty (new refl) old
+in_space P e Super Super entry at new old = set_keeps P e.supervisor (entry.page % 64) (page_of at % 64) entry empty (new refl) old
 
 abbrev pub an_access : (code write : Bool) → Space → ℕ → Reference
 an_access code write space at = record { code = code; space = space; at = at; write = write }
@@ -152,25 +152,47 @@ stays t m code k r e sound access less other is =
     subst (Leads (after_fill t code k) r) (sym is)
     (still_leads t (after_fill t code k) r (place_by (entry_for m r) r.at) (elsewhere t r code k other) refl (sound.leads r access less))
 
--- where the page's entries would stand there is none, and all others stand as they did
-cleared_at : (e : Entries) (page : ℕ) (space : Space) (at : ℕ) → page_of at % 16 ≡ page % 16 → entry_in (without_page_in e page) space at ≡ empty
-cleared_at e page User at same =
-    ap (λ (j : ℕ). get_or (set e.user (page % 16) empty) j empty) same ∙ is_cleared e.user (page % 16) empty
-cleared_at e page Super at same =
-    ap (λ (j : ℕ). get_or (set e.supervisor (page % 16) empty) j empty) same ∙ is_cleared e.supervisor (page % 16) empty
-
-others_at : (e : Entries) (page : ℕ) (space : Space) (at : ℕ) → page_of at % 16 ≢ page % 16
-    → entry_in (without_page_in e page) space at ≡ entry_in e space at
-others_at e page User at other = get_or-set_other e.user (page % 16) (page_of at % 16) empty empty other
-others_at e page Super at other = get_or-set_other e.supervisor (page % 16) (page_of at % 16) empty empty other
-
 same_or_other : (i j : ℕ) → (i ≡ j) ⊎ (i ≢ j)
 same_or_other i j = grind arith
+
+-- an element that was emptied or was empty
+emptied : (xs : List Entry) (i j : ℕ) → (j ≢ i → get_or xs j empty ≡ empty) → get_or (set xs i empty) j empty ≡ empty
+emptied xs i j rest = elim (same_or_other j i) [
+  | inl same ↦ ap (λ (n : ℕ). get_or (set xs i empty) n empty) same ∙ is_cleared xs i empty
+  | inr other ↦ get_or-set_other xs i j empty empty other ∙ rest other
+]
+
+of_class : (class j : ℕ) → j < 64 → j % 16 ≡ class → j ≢ class → j ≢ class + 16 → j ≢ class + 32 → j ≢ class + 48 → ⊥
+of_class class j less same a b c d = grind (arith, less, same, a, b, c, d)
+
+-- where entries of the class would stand there is none, and all others stand as they did
+class_cleared : (xs : List Entry) (page j : ℕ) → j < 64 → j % 16 ≡ page % 16 → get_or (without_class xs page) j empty ≡ empty
+class_cleared xs page j less same =
+    let class = page % 16 in
+    emptied _ (class + 48) j (λ d. emptied _ (class + 32) j (λ c. emptied _ (class + 16) j (λ b. emptied xs class j
+    (λ a. absurd (of_class class j less same a b c d)))))
+
+class_kept : (xs : List Entry) (page j : ℕ) → j % 16 ≢ page % 16 → get_or (without_class xs page) j empty ≡ get_or xs j empty
+class_kept xs page j other =
+    let class = page % 16 in
+    get_or-set_other _ (class + 48) j empty empty (λ e. other (omega (arith, e)))
+    ∙ get_or-set_other _ (class + 32) j empty empty (λ e. other (omega (arith, e)))
+    ∙ get_or-set_other _ (class + 16) j empty empty (λ e. other (omega (arith, e)))
+    ∙ get_or-set_other xs class j empty empty (λ e. other (omega (arith, e)))
+
+cleared_at : (e : Entries) (page : ℕ) (space : Space) (at : ℕ) → page_of at % 16 ≡ page % 16 → entry_in (without_class_in e page) space at ≡ empty
+cleared_at e page User at same = class_cleared e.user page (page_of at % 64) (omega arith) (omega (arith, same))
+cleared_at e page Super at same = class_cleared e.supervisor page (page_of at % 64) (omega arith) (omega (arith, same))
+
+others_at : (e : Entries) (page : ℕ) (space : Space) (at : ℕ) → page_of at % 16 ≢ page % 16
+    → entry_in (without_class_in e page) space at ≡ entry_in e space at
+others_at e page User at other = class_kept e.user page (page_of at % 64) (λ e. other (omega (arith, e)))
+others_at e page Super at other = class_kept e.supervisor page (page_of at % 64) (λ e. other (omega (arith, e)))
 
 -- an access of the side
 on_side : (t : Translation) (m : MicroTlb) (code write : Bool) (k : Kept) (space : Space) (at : ℕ) → IsSound t m
     → IsAccess (an_access code write space at) → at < 2 ^ 32
-    → Leads (after_fill t code k) (an_access code write space at) (entry_in (without_page_in (entries_for code write m) k.page) space at)
+    → Leads (after_fill t code k) (an_access code write space at) (entry_in (without_class_in (entries_for code write m) k.page) space at)
 on_side t m code write k space at sound access less = elim (same_or_other (page_of at % 16) (k.page % 16)) [
   | inl same ↦ empty_leads (after_fill t code k) (an_access code write space at) _ less
       (cleared_at (entries_for code write m) k.page space at same)
@@ -179,7 +201,7 @@ on_side t m code write k space at sound access less = elim (same_or_other (page_
 ]
 
 side_keeps : (t : Translation) (m : MicroTlb) (code : Bool) (k : Kept) → IsSound t m → (c w : Bool) (s : Space) (at : ℕ) → (c && w) ≡ false
-    → at < 2 ^ 32 → Found (after_fill t code k) (without_page code k.page m) c w s at
+    → at < 2 ^ 32 → Found (after_fill t code k) (without_class_of code k.page m) c w s at
 side_keeps t m true k sound true true s at access less = absurd (cc)
 side_keeps t m true k sound true false s at access less = on_side t m true false k s at sound access less
 side_keeps t m true k sound false true s at access less =
@@ -192,8 +214,8 @@ side_keeps t m false k sound true false s at access less =
 side_keeps t m false k sound false true s at access less = on_side t m false true k s at sound access less
 side_keeps t m false k sound false false s at access less = on_side t m false false k s at sound access less
 
--- without what stands where the entry's page would, it is sound once that is kept
-pub without_page-sound : (t : Translation) (m : MicroTlb) (code : Bool) (k : Kept) → IsSound t m
-    → IsSound (after_fill t code k) (without_page code k.page m)
-without_page-sound t m code k sound =
+-- without what stands where entries of its class would, it is sound once that is kept
+pub without_class-sound : (t : Translation) (m : MicroTlb) (code : Bool) (k : Kept) → IsSound t m
+    → IsSound (after_fill t code k) (without_class_of code k.page m)
+without_class-sound t m code k sound =
     record { leads = λ q access less. side_keeps t m code k sound q.code q.write q.space q.at access less }

@@ -3,6 +3,7 @@ use Rattle.std.specs.Prelude.{ℕ, ◌+◌, ◌-◌, ◌%◌, ◌^◌, ◌==◌,
 use Rattle.std.specs.Prelude.{List, replicate, slice_index_or, slice_set, Option, Some, None}
 use Rattle.mb_port.specs.declared.types.Space.{Space}
 use Rattle.mb_port.specs.declared.types.Space.TheVariants.{User, Super}
+use Rattle.mb_model.specs.declared.rules.TheConstants.{SIDE_CLASSES}
 use Rattle.mb_model.specs.Pages.{page_of}
 use Rattle.def_machine.specs.declared.reference.Reference.{Reference}
 use Rattle.mb_mmu.specs.declared.micro_tlb.Entry.{Entry}
@@ -58,14 +59,20 @@ with_entries false false space entry m = record m { reads = with_in m.reads spac
 abbrev pub with_entry : MicroTlb → Reference → Entry → MicroTlb
 with_entry m r entry = with_entries r.code r.write r.space entry m
 
--- without what stands where a page's entries would
-abbrev pub without_page_in : Entries → ℕ → Entries
-without_page_in e page = record {
-  user = slice_set e.user (page % ENTRIES) empty;
-  supervisor = slice_set e.supervisor (page % ENTRIES) empty;
+-- entries without what stands where those of a page's class would
+abbrev pub without_class : List Entry → (page : ℕ) → List Entry
+without_class entries page =
+    let class = page % SIDE_CLASSES in
+    let once = slice_set (slice_set entries class empty) (class + 16) empty in
+    slice_set (slice_set once (class + 32) empty) (class + 48) empty
+
+abbrev pub without_class_in : Entries → (page : ℕ) → Entries
+without_class_in e page = record {
+  user = without_class e.user page;
+  supervisor = without_class e.supervisor page;
 }
 
-abbrev pub without_page : (code : Bool) → (page : ℕ) → MicroTlb → MicroTlb
-without_page true page m = record m { fetches = without_page_in m.fetches page }
-without_page false page m =
-    record m { reads = without_page_in m.reads page; writes = without_page_in m.writes page }
+abbrev pub without_class_of : (code : Bool) → (page : ℕ) → MicroTlb → MicroTlb
+without_class_of true page m = record m { fetches = without_class_in m.fetches page }
+without_class_of false page m =
+    record m { reads = without_class_in m.reads page; writes = without_class_in m.writes page }

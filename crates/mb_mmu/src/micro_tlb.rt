@@ -2,14 +2,14 @@
 
 ghost use Rattle.std.specs.Prelude.{◌≡◌};
 ghost use Rattle.mb_mmu.specs.MicroTlb.{entries_for, entry_for, entry_in, entry_to, none, nothing, place_by, with_entry, with_in};
-ghost use Rattle.mb_mmu.specs.MicroTlb.{without_page, without_page_in};
+ghost use Rattle.mb_mmu.specs.MicroTlb.{without_class, without_class_in, without_class_of};
 
 use def_machine::Reference;
-use mb_model::page_of;
+use mb_model::{SIDE_CLASSES, page_of};
 use mb_port::Space;
 
-/// How many entries there are for a kind of access to a space.
-pub const ENTRIES: usize = 16;
+/// How many entries there are for a kind of access to a space: as many as translations of a side are kept.
+pub const ENTRIES: usize = 64;
 
 /// A page of logical addresses that stands whole in RAM.
 #[derive(Clone, Copy, Debug, PartialEq, Eq)]
@@ -50,7 +50,18 @@ impl Entry {
     }
 }
 
-/// The entries for a kind of access, by the space and by the page's number modulo 16.
+/// Drops what stands where entries of a page's class would, which are the pages with the same number modulo 16.
+fn clear_class(entries: &mut [Entry; ENTRIES], page: u32)
+    ensures { entries.new ≡ without_class entries.old page }
+{
+    let class = (page % SIDE_CLASSES) as usize;
+    entries[class] = EMPTY;
+    entries[class + 16] = EMPTY;
+    entries[class + 32] = EMPTY;
+    entries[class + 48] = EMPTY;
+}
+
+/// The entries for a kind of access, by the space and by the page's number modulo 64.
 #[derive(Drop)]
 pub struct Entries {
     pub(crate) user: [Entry; ENTRIES],
@@ -91,13 +102,12 @@ impl Entries {
         }
     }
 
-    /// Drops what stands where a page's entries would.
-    fn drop_page(&mut self, page: u32)
-        ensures { self.new ≡ without_page_in self.old page }
+    /// Drops what stands where entries of a page's class would.
+    fn drop_class(&mut self, page: u32)
+        ensures { self.new ≡ without_class_in self.old page }
     {
-        let index = page as usize % ENTRIES;
-        self.user[index] = EMPTY;
-        self.supervisor[index] = EMPTY;
+        clear_class(&mut self.user, page);
+        clear_class(&mut self.supervisor, page);
     }
 }
 
@@ -157,15 +167,15 @@ impl MicroTlb {
         }
     }
 
-    /// Drops what stands where a page's entries would, of a side: that of instruction words or that of data.
-    pub fn drop_page(&mut self, code: bool, page: u32)
-        ensures { self.new ≡ without_page code page self.old }
+    /// Drops what stands where entries of a page's class would, of a side: that of instruction words or that of data.
+    pub fn drop_class(&mut self, code: bool, page: u32)
+        ensures { self.new ≡ without_class_of code page self.old }
     {
         if code {
-            self.fetches.drop_page(page);
+            self.fetches.drop_class(page);
         } else {
-            self.reads.drop_page(page);
-            self.writes.drop_page(page);
+            self.reads.drop_class(page);
+            self.writes.drop_class(page);
         }
     }
 }

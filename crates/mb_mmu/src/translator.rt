@@ -116,7 +116,7 @@ impl Translator {
     {
         self.kept.fill(code, k);
         if self.remembers {
-            self.recent.drop_page(code, k.page);
+            self.recent.drop_class(code, k.page);
         }
     }
 
