@@ -8,8 +8,8 @@ use Rattle.def_instructions.specs.Attempt.{past}
 use Rattle.def_instructions.specs.Ends.{carried}
 use Rattle.def_instructions.specs.Rows.{row_of}
 use Rattle.mb_table.specs.declared.short.Short.{Short}
-use Rattle.mb_table.specs.Short.{meaning, meaning_with}
-use Rattle.mb_short.specs.Taken.{Comes, Goes, GoesBy, IsDone}
+use Rattle.mb_table.specs.Short.{meaning, meaning_with, meaning_with_long}
+use Rattle.mb_short.specs.Taken.{Comes, LongComes, Goes, GoesBy, IsDone}
 use Rattle.mb_short.proofs.Moves.{goes}
 
 -- a row that is carried out is its instruction
@@ -20,6 +20,10 @@ one_goes bus i space p q s t h = goes bus i p.pc space (past 1 p) q false s t h
 pub two_go : {S : Type 0} (bus : Bus S) (i : Instr) (space : Space) (p q : Plain) (s t : S)
     → run bus (row_of i p.pc space (past 2 p)) s ≡ (carried q, t) → Goes bus i 2 space p s false q t
 two_go bus i space p q s t h = goes bus i p.pc space (past 2 p) q false s t h
+
+pub three_go : {S : Type 0} (bus : Bus S) (i : Instr) (space : Space) (p q : Plain) (s t : S)
+    → run bus (row_of i p.pc space (past 3 p)) s ≡ (carried q, t) → Goes bus i 3 space p s false q t
+three_go bus i space p q s t h = goes bus i p.pc space (past 3 p) q false s t h
 
 -- what a form says, where it is done
 pub alone_if : {S : Type 0} (bus : Bus S) (form : Short) (i : Instr) (space : Space) (p q : Plain) (s t : S) (r : Option Bool)
@@ -32,7 +36,14 @@ pub with_if : {S : Type 0} (bus : Bus S) (form : Short) (i : Instr) (word : ℕ)
     → IfSome r (λ flow. Goes bus i 2 space p s flow q t) → IfSome r (λ flow. IsDone bus form space p s flow q t)
 with_if bus form i word space p q s t None range comes e h = h
 with_if bus form i word space p q s t (Some flow) range comes e h =
-    inr (word, range, comes, subst (λ (m : Option Instr). GoesBy bus m 2 space p s flow q t) (sym e) h)
+    inr (inl (word, range, comes, subst (λ (m : Option Instr). GoesBy bus m 2 space p s flow q t) (sym e) h))
+
+pub with_long_if : {S : Type 0} (bus : Bus S) (form : Short) (i : Instr) (value : ℕ) (space : Space) (p q : Plain) (s t : S) (r : Option Bool)
+    → value < 2 ^ 32 → LongComes bus space p s value → meaning_with_long value form ≡ Some i
+    → IfSome r (λ flow. Goes bus i 3 space p s flow q t) → IfSome r (λ flow. IsDone bus form space p s flow q t)
+with_long_if bus form i value space p q s t None range comes e h = h
+with_long_if bus form i value space p q s t (Some flow) range comes e h =
+    inr (inr (value, range, comes, subst (λ (m : Option Instr). GoesBy bus m 3 space p s flow q t) (sym e) h))
 
 -- the same where a form of one word answers so
 pub by_if : {S : Type 0} (bus : Bus S) (form : Short) (space : Space) (p q : Plain) (s t : S) (r : Option Bool)
@@ -40,6 +51,6 @@ pub by_if : {S : Type 0} (bus : Bus S) (form : Short) (space : Space) (p q : Pla
 by_if bus form space p q s t None h = h
 by_if bus form space p q s t (Some flow) h = inl h
 
-pub ruleset goings = (one_goes, two_go)
+pub ruleset goings = (one_goes, two_go, three_go)
 
-pub ruleset endings = (alone_if, with_if, by_if)
+pub ruleset endings = (alone_if, with_if, with_long_if, by_if)

@@ -3,6 +3,7 @@ pub mod Updates
 pub mod Copies
 pub mod Moves
 pub mod Goings
+pub mod Immediates
 pub mod Flows
 pub mod Changes
 pub mod Followings

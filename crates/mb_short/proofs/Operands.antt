@@ -7,7 +7,7 @@ use Rattle.mb_port.specs.declared.types.Space.{Space}
 use Rattle.mb_instr.specs.declared.size.Size.{Size}
 use Rattle.mb_instr.specs.declared.size.Size.TheVariants.{Word}
 use Rattle.mb_instr.specs.declared.operand.Ea.{Ea}
-use Rattle.mb_instr.specs.declared.operand.Ea.TheVariants.{Dn, An, Disp}
+use Rattle.mb_instr.specs.declared.operand.Ea.TheVariants.{Dn, An, Disp, AbsL}
 use Rattle.mb_instr.specs.declared.registers.Plain.{Plain}
 use Rattle.mb_instr.specs.Codes.{IsInstr}
 use Rattle.mb_instr.specs.Operands.{lower}
@@ -41,7 +41,7 @@ use Rattle.mb_short.specs.Moved.{moved_to}
 use Rattle.mb_short.specs.Operands.{place_at, register_value, HasRegister, taken_by, HasSource, put_value}
 use Rattle.mb_short.specs.Taken.{Goes}
 use Rattle.mb_short.proofs.Moves.{is_data}
-use Rattle.mb_short.proofs.Goings.{one_goes, two_go}
+use Rattle.mb_short.proofs.Goings.{one_goes, two_go, three_go}
 
 is_address : (n : ℕ) → nat_lt (8 + n) 8 ≡ false
 is_address n = grind (arith, nat_tests)
@@ -93,7 +93,7 @@ abbrev pub Finds : {S : Type 0} → Bus S → Size → Ea → Space → Plain �
 Finds bus size ea space p s at q =
     (word_at : ℕ) → run bus (resolve_of ea size word_at space p) s ≡ (Ok (record { target = Memory at; plain = q }), s)
 
-abbrev Fetches : {S : Type 0} → Bus S → Size → Ea → Space → Plain → S → Target → ℕ → Plain → Type 0
+abbrev pub Fetches : {S : Type 0} → Bus S → Size → Ea → Space → Plain → S → Target → ℕ → Plain → Type 0
 Fetches bus size ea space p s target value q =
     (word_at : ℕ) → run bus (fetch_operand_of size ea word_at space p) s ≡ (Ok (record { target = target; value = value; plain = q }), s)
 
@@ -108,6 +108,10 @@ pub near_found : {S : Type 0} (bus : Bus S) (size : Size) (m d : ℕ) (space : S
     → Finds bus size (Disp m d) space p s (sum (address_register p m) (sign_extended Word d)) p
 unfolding resolve_of
 near_found bus size m d space p s word_at = refl
+
+absolute_found : {S : Type 0} (bus : Bus S) (size : Size) (at : ℕ) (space : Space) (p : Plain) (s : S) → Finds bus size (AbsL at) space p s at p
+unfolding resolve_of
+absolute_found bus size at space p s word_at = refl
 
 pub data_fetched : {S : Type 0} (bus : Bus S) (size : Size) (n : ℕ) (space : Space) (p : Plain) (s : S) → n < 8
     → Fetches bus size (Dn n) space p s (Reg n) (low_of size (data_register p n)) p
@@ -126,18 +130,18 @@ memory_fetched bus size ea at value space p q s found read word_at = rw (run, fo
 
 -- ---- what is made of an operand's value
 
-moved : {S : Type 0} (bus : Bus S) (size : Size) (n : ℕ) (ea : Ea) (target : Target) (value word_at : ℕ) (space : Space) (p q : Plain) (s : S)
+pub moved : {S : Type 0} (bus : Bus S) (size : Size) (n : ℕ) (ea : Ea) (target : Target) (value word_at : ℕ) (space : Space) (p q : Plain) (s : S)
     → n < 8 → Fetches bus size ea space p s target value q
     → run bus (move_operand_of size (Dn n) ea word_at space p) s ≡ (carried (moved_to n size value q), s)
 unfolding resolve_of
 moved bus size n ea target value word_at space p q s h fetched = rw (run, fetched word_at, is_data n h) refl
 
-moved_address : {S : Type 0} (bus : Bus S) (size : Size) (n : ℕ) (ea : Ea) (target : Target) (value word_at : ℕ) (space : Space) (p q : Plain)
+pub moved_address : {S : Type 0} (bus : Bus S) (size : Size) (n : ℕ) (ea : Ea) (target : Target) (value word_at : ℕ) (space : Space) (p q : Plain)
     (s : S) → Fetches bus size ea space p s target value q
     → run bus (movea_of size n ea word_at space p) s ≡ (carried (with_address_register q n (sign_extended size value)), s)
 moved_address bus size n ea target value word_at space p q s fetched = rw (run, fetched word_at) refl
 
-combined : {S : Type 0} (bus : Bus S) (operation : ℕ → ℕ → ℕ → Flagged) (size : Size) (n : ℕ) (ea : Ea) (target : Target) (value word_at : ℕ)
+pub combined : {S : Type 0} (bus : Bus S) (operation : ℕ → ℕ → ℕ → Flagged) (size : Size) (n : ℕ) (ea : Ea) (target : Target) (value word_at : ℕ)
     (space : Space) (p q : Plain) (s : S) → n < 8 → Fetches bus size ea space p s target value q
     → run bus (combine_of operation size ea (Dn n) word_at space p) s
     ≡ (carried (put_in_register_of n size (operation value (low_of size (data_register q n)) q.ccr) q), s)
@@ -145,7 +149,7 @@ combined bus operation size n ea target value word_at space p q s h fetched =
     let destination = data_fetched bus size n space q s h (behind_of size ea word_at) in
     rw (run, fetched word_at, destination, is_data n h) refl
 
-compared : {S : Type 0} (bus : Bus S) (size : Size) (n : ℕ) (ea : Ea) (target : Target) (value word_at : ℕ) (space : Space) (p q : Plain) (s : S)
+pub compared : {S : Type 0} (bus : Bus S) (size : Size) (n : ℕ) (ea : Ea) (target : Target) (value word_at : ℕ) (space : Space) (p q : Plain) (s : S)
     → n < 8 → Fetches bus size ea space p s target value q
     → run bus (compare_pair_of size ea (Dn n) word_at space p) s
     ≡ (carried (record q { ccr = compare_of size value (low_of size (data_register q n)) q.ccr }), s)
@@ -153,7 +157,7 @@ compared bus size n ea target value word_at space p q s h fetched =
     let destination = data_fetched bus size n space q s h (behind_of size ea word_at) in
     rw (run, fetched word_at, destination) refl
 
-taken : {S : Type 0} (bus : Bus S) (effect : ℕ → Plain → Rowed) (size : Size) (ea : Ea) (target : Target) (value word_at : ℕ) (space : Space)
+pub taken : {S : Type 0} (bus : Bus S) (effect : ℕ → Plain → Rowed) (size : Size) (ea : Ea) (target : Target) (value word_at : ℕ) (space : Space)
     (p q : Plain) (s : S) → Fetches bus size ea space p s target value q
     → run bus (take_of effect size ea word_at space p) s ≡ (effect value q, s)
 taken bus effect size ea target value word_at space p q s fetched = rw (run, fetched word_at) refl
@@ -231,6 +235,15 @@ takes_near bus t size m d value space p s valid read =
     (memory_fetched bus size (Disp m d) (sum (address_register p m) (sign_extended Word d)) value space moved moved s
     (near_found bus size m d space moved s) read))
 
+pub takes_absolute : {S : Type 0} (bus : Bus S) (t : Taking) (size : Size) (at value : ℕ) (space : Space) (p : Plain) (s : S)
+    → IsInstr (taking_of t size (AbsL at)) → run bus (read_operand_of space at (bytes_of size)) s ≡ (Ok value, s)
+    → Goes bus (taking_of t size (AbsL at)) 3 space p s false (taken_by t size value (past 3 p)) s
+takes_absolute bus t size at value space p s valid read =
+    let moved = past 3 p in
+    three_go bus (taking_of t size (AbsL at)) space p (taken_by t size value moved) s s
+    (takes bus t size (AbsL at) (Memory at) value p.pc space moved moved s (has_register t size (AbsL at) valid)
+    (memory_fetched bus size (AbsL at) at value space moved moved s (absolute_found bus size at space moved s) read))
+
 -- ---- what is written
 
 puts : {S : Type 0} (bus : Bus S) (t : Putting) (size : Size) (ea : Ea) (to at : ℕ) (space : Space) (p q : Plain) (s u : S)
@@ -271,5 +284,16 @@ puts_near bus t size m d space p s u valid put =
     two_go bus (putting_of t size (Disp m d)) space p (move_flags size (put_value t size p) moved) s u
     (subst (λ (value : ℕ). run bus (row_of (putting_of t size (Disp m d)) p.pc space moved) s ≡ (carried (move_flags size value moved), u))
     (same_put t size 2 p) row)
+
+pub puts_absolute : {S : Type 0} (bus : Bus S) (t : Putting) (size : Size) (at : ℕ) (space : Space) (p : Plain) (s u : S)
+    → IsInstr (putting_of t size (AbsL at)) → run bus (write_operand_of space at (bytes_of size) (put_value t size p)) s ≡ (Ok tt, u)
+    → Goes bus (putting_of t size (AbsL at)) 3 space p s false (move_flags size (put_value t size p) (past 3 p)) u
+puts_absolute bus t size at space p s u valid put =
+    let moved = past 3 p in
+    let here = subst (λ (value : ℕ). run bus (write_operand_of space at (bytes_of size) value) s ≡ (Ok tt, u)) (sym (same_put t size 3 p)) put in
+    let row = puts bus t size (AbsL at) at p.pc space moved moved s u (has_source t size (AbsL at) valid) (absolute_found bus size at space moved s) here in
+    three_go bus (putting_of t size (AbsL at)) space p (move_flags size (put_value t size p) moved) s u
+    (subst (λ (value : ℕ). run bus (row_of (putting_of t size (AbsL at)) p.pc space moved) s ≡ (carried (move_flags size value moved), u))
+    (same_put t size 3 p) row)
 
 pub ruleset operands = (has_register, has_operand, has_source, has_place)

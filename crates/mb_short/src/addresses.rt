@@ -1,14 +1,14 @@
 //! LEA.
 
 ghost use Rattle.std.specs.Prelude.{◌<◌, false};
-ghost use Rattle.mb_instr.specs.declared.operand.Ea.TheVariants.{Disp};
+ghost use Rattle.mb_instr.specs.declared.operand.Ea.TheVariants.{Disp, AbsL};
 ghost use Rattle.mb_instr.specs.declared.instruction.Instr.TheVariants as instr;
 ghost use Rattle.mb_instr.specs.declared.instruction.Move.TheVariants as move_row;
 ghost use Rattle.mb_short.specs.declared.changed.Changed.TheVariants.{Address};
 ghost use Rattle.mb_short.specs.Changed.{Differ};
 ghost use Rattle.mb_short.specs.Taken.{Goes};
 
-use crate::places::{near, pass_two};
+use crate::places::{near, pass_three, pass_two};
 use mb_instr::Plain;
 use mb_port::{Port, Space};
 
@@ -31,4 +31,23 @@ pub(crate) fn load_near<P: Port>(
 {
     plain.a[register as usize] = near(base, displacement, plain);
     pass_two(plain);
+}
+
+/// LEA at PC of an absolute address, which the second word and the third are.
+#[inline(always)]
+#[tactic(auto, using(crate::proofs::Flows::flows, crate::proofs::Changes::changes))]
+pub(crate) fn load_absolute<P: Port>(
+    register: u8,
+    at: u32,
+    space: Space,
+    plain: &mut Plain,
+    port: &P,
+)
+    requires { register < 8 }
+    ensures means { Goes P.bus (instr.Move (move_row.Lea register (AbsL at))) 3 space plain.old (P.world port.now)
+        false plain.new (P.world port.now) }
+    ensures differ { Differ (Address register) plain.old plain.new }
+{
+    plain.a[register as usize] = at;
+    pass_three(plain);
 }

@@ -72,10 +72,13 @@ pub(crate) fn changed_by(short: &Short) -> Changed
 {
     match *short {
         Short::Change { register, .. } => Changed::Data(register),
-        Short::AddressNear { register, .. } => Changed::Address(register),
+        Short::AddressNear { register, .. } | Short::AddressAbsolute { register } => Changed::Address(register),
         Short::Return | Short::Call { .. } | Short::CallFar => Changed::Address(7),
-        Short::PutNear { .. } | Short::UpdateNear { .. } => Changed::Nothing,
-        Short::TakeRegister { taking, .. } | Short::TakeNear { taking, .. } => taken_in(taking),
+        Short::PutNear { .. } | Short::PutAbsolute { .. } | Short::UpdateNear { .. } => Changed::Nothing,
+        Short::TakeRegister { taking, .. }
+        | Short::TakeNear { taking, .. }
+        | Short::TakeImmediate { taking, .. }
+        | Short::TakeAbsolute { taking, .. } => taken_in(taking),
         Short::TakeMemory { taking, place, .. } => taken_in(taking).with_step(place),
         Short::PutMemory { place, .. }
         | Short::UpdateMemory { place, .. }

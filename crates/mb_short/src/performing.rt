@@ -2,21 +2,23 @@
 
 ghost use Rattle.std.specs.Prelude.{◌≡◌, ◌%◌, ◌^◌, ◌<◌, true, IsSome, IfSome, IfNone};
 ghost use Rattle.mb_instr.specs.Codes.{IsInstr};
-ghost use Rattle.mb_table.specs.Short.{meaning, meaning_with};
+ghost use Rattle.mb_table.specs.Short.{meaning, meaning_with, meaning_with_long};
 ghost use Rattle.mb_short.specs.Always.{asks_nothing, is_of_registers_by_parts};
 ghost use Rattle.mb_short.specs.Changed.{changed_of, Differ, Follows};
-ghost use Rattle.mb_short.specs.Taken.{Comes, IsDone};
+ghost use Rattle.mb_short.specs.Taken.{Comes, LongComes, IsDone};
 
-use crate::addresses::load_near;
+use crate::addresses::{load_absolute, load_near};
 use crate::branches::{branch, branch_far, turn};
 use crate::changed::changed_by;
 use crate::changing::change_register;
 use crate::copying::copy_near;
 use crate::following::{Follower, follow, values_of};
-use crate::putting::{put_memory, put_near};
+use crate::putting::{put_absolute, put_memory, put_near};
 use crate::registers::{perform_between_data, perform_in_address, perform_in_data};
 use crate::stack::{call_far, call_near, link, return_from, unlink};
-use crate::taking::{take_memory, take_near, take_register};
+use crate::taking::{
+    take_absolute, take_immediate, take_long, take_memory, take_near, take_register,
+};
 use crate::updating::{update_memory, update_near};
 use mb_instr::{Plain, Size};
 use mb_port::{Port, Space};
@@ -30,6 +32,50 @@ fn second_word<P: Port>(space: Space, plain: &Plain, port: &P) -> Option<u16>
     ensures range { IfSome result (λ word. word < 2 ^ 16) }
 {
     port.quick_fetch(space, plain.pc.wrapping_add(2))
+}
+
+/// The long that stands behind the first word, where it is known at once.
+#[inline(always)]
+fn long_behind<P: Port>(space: Space, plain: &Plain, port: &P) -> Option<u32>
+    requires { plain.now.pc % 2 ≡ 0 }
+    ensures comes { IfSome result (LongComes P.bus space plain.now (P.world port.now)) }
+    ensures range { IfSome result (λ value. value < 2 ^ 32) }
+{
+    let at = plain.pc.wrapping_add(2);
+    let high = port.quick_fetch(space, at)?;
+    let low = port.quick_fetch(space, at.wrapping_add(2))?;
+    Some(u32::from(high) << 16 | u32::from(low))
+}
+
+/// What `perform_short` does, for the forms of three words.
+#[rattlefmt::skip]
+#[tactic(auto, using(crate::proofs::Goings::endings))]
+#[inline(always)]
+fn perform_triple<P: Port>(short: &Short, space: Space, plain: &mut Plain, port: &mut P) -> Option<bool>
+    requires even { plain.old.pc % 2 ≡ 0 }
+    requires valid { (value : _) → value < 2 ^ 32 → IfSome (meaning_with_long value short.now) IsInstr }
+    ensures done { IfSome result (λ flow.
+        IsDone P.bus short.now space plain.old (P.world port.old) flow plain.new (P.world port.new)) }
+    ensures differ { IfSome result (λ flow. Differ (changed_of short.now) plain.old plain.new) }
+    ensures undone { IfNone result (plain.new ≡ plain.old) }
+    ensures same { IfNone result (P.world port.new ≡ P.world port.old) }
+    ensures still { P.still (P.world port.new) ≡ P.still (P.world port.old) }
+    ensures rest { P.rest port.new ≡ P.rest port.old }
+{
+    let value = long_behind(space, plain, port)?;
+    match *short {
+        Short::TakeImmediate { taking, size: Size::Long } => {
+            take_long(taking, value, space, plain, port);
+            Some(false)
+        }
+        Short::TakeAbsolute { taking, size } => take_absolute(taking, size, value, space, plain, port),
+        Short::PutAbsolute { putting, size } => put_absolute(putting, size, value, space, plain, port),
+        Short::AddressAbsolute { register } => {
+            load_absolute(register, value, space, plain, port);
+            Some(false)
+        }
+        _ => None,
+    }
 }
 
 /// What `perform_short` does, for the forms of two words that come less often.
@@ -50,6 +96,14 @@ fn perform_pair<P: Port>(short: &Short, space: Space, plain: &mut Plain, port: &
     let word = second_word(space, plain, port)?;
     match *short {
         Short::TakeNear { taking, size, base } => take_near(taking, size, base, word, space, plain, port),
+        Short::TakeImmediate { taking, size: Size::Byte } => {
+            take_immediate(taking, Size::Byte, word, space, plain, port);
+            Some(false)
+        }
+        Short::TakeImmediate { taking, size: Size::Word } => {
+            take_immediate(taking, Size::Word, word, space, plain, port);
+            Some(false)
+        }
         Short::PutNear { putting, size, base } => put_near(putting, size, base, word, space, plain, port),
         Short::UpdateNear { update, size, base } => update_near(update, size, base, word, space, plain, port),
         Short::CopyNear { size, base, place } => copy_near(size, base, place, word, space, plain, port),
@@ -71,6 +125,7 @@ fn perform_rarer<P: Port>(short: &Short, space: Space, plain: &mut Plain, port: 
     requires even { plain.old.pc % 2 ≡ 0 }
     requires valid { IfSome (meaning short.now) IsInstr }
     requires valid_with { (word : _) → word < 2 ^ 16 → IfSome (meaning_with word short.now) IsInstr }
+    requires valid_long { (value : _) → value < 2 ^ 32 → IfSome (meaning_with_long value short.now) IsInstr }
     ensures done { IfSome result (λ flow.
         IsDone P.bus short.now space plain.old (P.world port.old) flow plain.new (P.world port.new)) }
     ensures differ { IfSome result (λ flow. Differ (changed_of short.now) plain.old plain.new) }
@@ -95,6 +150,8 @@ fn perform_rarer<P: Port>(short: &Short, space: Space, plain: &mut Plain, port: 
         Short::Return => return_from(space, plain, port),
         Short::Call { displacement } => call_near(displacement, space, plain, port),
         Short::Unlink { register } => unlink(register, space, plain, port),
+        Short::TakeImmediate { size: Size::Long, .. } | Short::TakeAbsolute { .. } | Short::PutAbsolute { .. }
+        | Short::AddressAbsolute { .. } => perform_triple(short, space, plain, port),
         _ => perform_pair(short, space, plain, port),
     }
 }
@@ -111,6 +168,7 @@ fn perform_followed<P: Port, F: Follower>(
     requires even { plain.old.pc % 2 ≡ 0 }
     requires valid { IfSome (meaning short.now) IsInstr }
     requires valid_with { (word : _) → word < 2 ^ 16 → IfSome (meaning_with word short.now) IsInstr }
+    requires valid_long { (value : _) → value < 2 ^ 32 → IfSome (meaning_with_long value short.now) IsInstr }
     ensures done { IfSome result (λ flow.
         IsDone P.bus short.now space plain.old (P.world port.old) flow plain.new (P.world port.new)) }
     ensures follows { Follows F.follows follower.old plain.old → Follows F.follows follower.new plain.new }
@@ -144,6 +202,7 @@ pub fn perform_short<P: Port, F: Follower, Loop>(
     requires even { plain.old.pc % 2 ≡ 0 }
     requires valid { IfSome (meaning short.now) IsInstr }
     requires valid_with { (word : _) → word < 2 ^ 16 → IfSome (meaning_with word short.now) IsInstr }
+    requires valid_long { (value : _) → value < 2 ^ 32 → IfSome (meaning_with_long value short.now) IsInstr }
     ensures done { IfSome result (λ flow.
         IsDone P.bus short.now space plain.old (P.world port.old) flow plain.new (P.world port.new)) }
     ensures follows { Follows F.follows follower.old plain.old → Follows F.follows follower.new plain.new }

@@ -63,6 +63,14 @@ pub(crate) fn near(base: u8, displacement: u16, plain: &Plain) -> u32
     plain.a[base as usize].wrapping_add(Size::Word.sign_extend(u32::from(displacement)))
 }
 
+/// PC goes past three words.
+#[inline(always)]
+pub(crate) fn pass_three(plain: &mut Plain)
+    ensures { plain.new ≡ past 3 plain.old }
+{
+    plain.pc = plain.pc.wrapping_add(6);
+}
+
 /// PC goes past one word.
 #[inline(always)]
 pub(crate) fn pass_one(plain: &mut Plain)

@@ -1,15 +1,16 @@
 //! Operands that are only read.
 
 ghost use Rattle.std.specs.Prelude.{◌≡◌, ◌<◌, false, IfSome, IfNone};
-ghost use Rattle.mb_instr.specs.declared.operand.Ea.TheVariants.{Disp};
+ghost use Rattle.mb_instr.specs.declared.operand.Ea.TheVariants.{Disp, AbsL};
+ghost use Rattle.mb_instr.specs.declared.size.Size.TheVariants.{Long};
 ghost use Rattle.mb_instr.specs.Codes.{IsInstr};
 ghost use Rattle.mb_instr.specs.Operands.{lower};
-ghost use Rattle.mb_table.specs.Forms.{taking_of, register_ea, place_ea};
+ghost use Rattle.mb_table.specs.Forms.{taking_of, immediate_of, register_ea, place_ea};
 ghost use Rattle.mb_short.specs.Changed.{taken_in, with_step, Differ};
 ghost use Rattle.mb_short.specs.Operands.{HasRegister, taken_by, register_value};
 ghost use Rattle.mb_short.specs.Taken.{Goes};
 
-use crate::places::{address, near, pass_one, pass_two, step_over};
+use crate::places::{address, near, pass_one, pass_three, pass_two, step_over};
 use crate::registers::{ADD, AND, OR, SUBTRACT, move_to, test};
 use mb_alu::compare;
 use mb_instr::{Plain, Size};
@@ -118,6 +119,69 @@ pub(crate) fn take_near<P: Port>(
 {
     let value = read_at_once(space, near(base, displacement, plain), size, port)?;
     pass_two(plain);
+    take(taking, size, value, plain);
+    Some(false)
+}
+
+/// An instruction at PC that reads an immediate of a byte or a word, which is the second word.
+#[inline(always)]
+#[tactic(auto, using(crate::proofs::Immediates::immediates, crate::proofs::Changes::changes))]
+pub(crate) fn take_immediate<P: Port>(
+    taking: Taking,
+    size: Size,
+    immediate: u16,
+    space: Space,
+    plain: &mut Plain,
+    port: &P,
+)
+    requires { IsInstr (immediate_of taking size immediate) }
+    ensures means { Goes P.bus (immediate_of taking size immediate) 2 space plain.old (P.world port.now) false plain.new
+        (P.world port.now) }
+    ensures differ { Differ (taken_in taking) plain.old plain.new }
+{
+    pass_two(plain);
+    take(taking, size, size.low(u32::from(immediate)), plain);
+}
+
+/// The same with a long, which the second word and the third are.
+#[inline(always)]
+#[tactic(auto, using(crate::proofs::Immediates::immediates, crate::proofs::Changes::changes))]
+pub(crate) fn take_long<P: Port>(
+    taking: Taking,
+    immediate: u32,
+    space: Space,
+    plain: &mut Plain,
+    port: &P,
+)
+    requires { IsInstr (immediate_of taking Long immediate) }
+    ensures means { Goes P.bus (immediate_of taking Long immediate) 3 space plain.old (P.world port.now) false plain.new
+        (P.world port.now) }
+    ensures differ { Differ (taken_in taking) plain.old plain.new }
+{
+    pass_three(plain);
+    take(taking, Size::Long, Size::Long.low(immediate), plain);
+}
+
+/// An instruction at PC that reads memory at an absolute address, which the second word and the third are, where the
+/// operand is known at once. Else nothing has changed.
+#[inline(always)]
+#[tactic(auto, using(crate::proofs::Operands::operands, crate::proofs::Changes::changes))]
+pub(crate) fn take_absolute<P: Port>(
+    taking: Taking,
+    size: Size,
+    at: u32,
+    space: Space,
+    plain: &mut Plain,
+    port: &P,
+) -> Option<bool>
+    requires { IsInstr (taking_of taking size (AbsL at)) }
+    ensures done { IfSome result (λ flow. Goes P.bus (taking_of taking size (AbsL at)) 3 space plain.old
+        (P.world port.now) flow plain.new (P.world port.now)) }
+    ensures differ { IfSome result (λ flow. Differ (taken_in taking) plain.old plain.new) }
+    ensures undone { IfNone result (plain.new ≡ plain.old) }
+{
+    let value = read_at_once(space, at, size, port)?;
+    pass_three(plain);
     take(taking, size, value, plain);
     Some(false)
 }

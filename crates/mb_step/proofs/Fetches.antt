@@ -9,7 +9,7 @@ use Rattle.mb_instr.specs.declared.vectors.TheConstants.{ODD_COUNTER, ILLEGAL}
 use Rattle.mb_model.specs.declared.processor.Cpu.{Cpu}
 use Rattle.mb_model.specs.Status.{space_of}
 use Rattle.mb_decode.specs.declared.front.Decoded.{Decoded}
-use Rattle.mb_decode.specs.declared.front.Decoded.TheVariants.{Whole}
+use Rattle.mb_decode.specs.declared.front.Decoded.TheVariants.{Whole, More}
 use Rattle.mb_decode.specs.Decodes.{decode_of}
 use Rattle.mb_ea.specs.Reading.{refused_in}
 use Rattle.def_instructions.specs.Attempt.{NoInstruction, Unfetched, FoundInstr, illegal, found_of, by_decoded}
@@ -154,6 +154,19 @@ two_words bus cpu space first second s t i k h e =
     ap (doing bus cpu)
     (fetched bus (MOST_WORDS - 1) (MOST_WORDS - 2) (space_of cpu) ((cpu.regs.pc + 2) % 2 ^ 32) (first ∷ []) second s t (first ∷ second ∷ [])
     (Whole i 2) refl (rw (sym k) h) refl (sym e))
+
+-- it has more words: the second and the third came, and the three are an instruction
+pub three_words : {S : Type 0} (bus : Bus S) (cpu : Cpu) (first second third : ℕ) (s t u : S) (i : Instr)
+    → Answered bus (space_of cpu) ((cpu.regs.pc + 2) % 2 ^ 32) s (Ok second) t
+    → Answered bus (space_of cpu) (((cpu.regs.pc + 2) % 2 ^ 32 + 2) % 2 ^ 32) t (Ok third) u
+    → decode_of (first ∷ second ∷ []) ≡ More → decode_of (first ∷ second ∷ third ∷ []) ≡ Whole i 3
+    → run bus (found_executed cpu (behind cpu first)) s ≡ run bus (execute_of i 3 cpu) u
+three_words bus cpu first second third s t u i h k more e =
+    ap (doing bus cpu)
+    (fetched bus (MOST_WORDS - 1) (MOST_WORDS - 2) (space_of cpu) ((cpu.regs.pc + 2) % 2 ^ 32) (first ∷ []) second s t (first ∷ second ∷ [])
+    More refl h refl (sym more)
+    ∙ fetched bus (MOST_WORDS - 2) (MOST_WORDS - 3) (space_of cpu) (((cpu.regs.pc + 2) % 2 ^ 32 + 2) % 2 ^ 32) (first ∷ second ∷ []) third t u
+    (first ∷ second ∷ third ∷ []) (Whole i 3) refl k refl (sym e))
 
 -- it has more words, and the second did not come
 no_second_word : {S : Type 0} (bus : Bus S) (cpu : Cpu) (space : Space) (first : ℕ) (fault : Fault) (s t : S)

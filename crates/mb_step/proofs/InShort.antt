@@ -1,5 +1,5 @@
 -- An instruction that was carried out by its short form is the step's.
-use Rattle.std.proofs.Common.{◌≡◌, ◌∙◌, ℕ, ◌<◌, ◌+◌, ◌%◌, ◌^◌, length, refl, ap, sym, subst, Bool, false, List, Option, Some, None, IfSome, Ok, inl, inr}
+use Rattle.std.proofs.Common.{◌≡◌, ◌∙◌, ℕ, ◌<◌, ◌+◌, ◌/◌, ◌%◌, ◌^◌, length, refl, ap, sym, subst, Bool, false, List, Option, Some, None, IfSome, Ok, inl, inr}
 use Rattle.mb_port.specs.Routine.{Bus, Call, run}
 use Rattle.mb_port.specs.declared.types.Space.{Space}
 use Rattle.mb_instr.specs.declared.instruction.Instr.{Instr}
@@ -18,11 +18,11 @@ use Rattle.def_processor.specs.declared.Finish.TheVariants as finish
 use Rattle.def_processor.specs.Step.{execute_of, finish_instruction_of}
 use Rattle.mb_table.specs.declared.short.Short.{Short}
 use Rattle.mb_table.specs.FirstWords.{alone}
-use Rattle.mb_table.specs.Short.{meaning, meaning_with, IsAlone, IsWith, IsShort}
+use Rattle.mb_table.specs.Short.{meaning, meaning_with, meaning_with_long, IsAlone, IsWith, IsWithLong, IsShort}
 use Rattle.mb_short.specs.Changed.{Follows}
-use Rattle.mb_short.specs.Taken.{Goes, GoesBy, IsDone}
+use Rattle.mb_short.specs.Taken.{Goes, GoesBy, LongComes, IsDone}
 use Rattle.mb_step.specs.Fetching.{behind, found_executed}
-use Rattle.mb_step.proofs.Fetches.{is_whole, two_words}
+use Rattle.mb_step.proofs.Fetches.{is_whole, two_words, three_words}
 use Rattle.mb_step.proofs.Registers.{same_space, same_due, same_counter, registers_over, registers_low, plain_again}
 
 -- what follows an instruction that went
@@ -58,12 +58,25 @@ with_went bus cpu first word (Some i) flow q s t right came h =
     ∙ two_words bus cpu (space_of cpu) first word s s i refl came right.1
     ∙ executed bus cpu i 2 flow q s t h
 
+-- with the second and the third
+long_went : {S : Type 0} (bus : Bus S) (cpu : Cpu) (first value : ℕ) (m : Option Instr) (flow : Bool) (q : Plain) (s t : S)
+    → IfSome m (IsWithLong first value) → LongComes bus (space_of cpu) (plain_of cpu.regs) s value
+    → GoesBy bus m 3 (space_of cpu) (plain_of cpu.regs) s flow q t
+    → run bus (found_executed cpu (by_decoded (alone first) (behind cpu first))) s ≡ after bus cpu flow q t
+long_went bus cpu first value None flow q s t right came h = absurd h
+long_went bus cpu first value (Some i) flow q s t right came h =
+    ap (λ (d : Decoded). run bus (found_executed cpu (by_decoded d (behind cpu first))) s) right.0
+    ∙ three_words bus cpu first (value / 2 ^ 16) (value % 2 ^ 16) s s s i came.0 came.1 right.1 right.2
+    ∙ executed bus cpu i 3 flow q s t h
+
 pub went : {S : Type 0} (bus : Bus S) (cpu : Cpu) (first : ℕ) (short : Short) (flow : Bool) (q : Plain) (s t : S)
     → IsShort first short → IsDone bus short (space_of cpu) (plain_of cpu.regs) s flow q t
     → run bus (found_executed cpu (by_decoded (alone first) (behind cpu first))) s ≡ after bus cpu flow q t
 went bus cpu first short flow q s t right (inl h) = alone_went bus cpu first (meaning short) flow q s t right.0 h
-went bus cpu first short flow q s t right (inr (word, range, came, h)) =
+went bus cpu first short flow q s t right (inr (inl (word, range, came, h))) =
     with_went bus cpu first word (meaning_with word short) flow q s t (right.1 word range) came h
+went bus cpu first short flow q s t right (inr (inr (value, range, came, h))) =
+    long_went bus cpu first value (meaning_with_long value short) flow q s t (right.2 value range) came h
 
 -- a processor that works on the registers apart: `value` is the processor put together
 pub went_apart : {S : Type 0} (bus : Bus S) (cpu value : Cpu) (before now : Plain) (first : ℕ) (short : Short) (flow : Bool) (s t : S)
@@ -114,11 +127,18 @@ with_valid : (first word : ℕ) (m : Option Instr) → IfSome m (IsWith first wo
 with_valid first word None h = h
 with_valid first word (Some i) h = h.2
 
+long_valid : (first value : ℕ) (m : Option Instr) → IfSome m (IsWithLong first value) → IfSome m IsInstr
+long_valid first value None h = h
+long_valid first value (Some i) h = h.3
+
 pub valid : (first : ℕ) (short : Short) → IsShort first short → IfSome (meaning short) IsInstr
 valid first short right = alone_valid first (meaning short) right.0
 
 pub valid_with : (first : ℕ) (short : Short) → IsShort first short → (word : ℕ) → word < 2 ^ 16 → IfSome (meaning_with word short) IsInstr
 valid_with first short right word range = with_valid first word (meaning_with word short) (right.1 word range)
+
+pub valid_long : (first : ℕ) (short : Short) → IsShort first short → (value : ℕ) → value < 2 ^ 32 → IfSome (meaning_with_long value short) IsInstr
+valid_long first short right value range = long_valid first value (meaning_with_long value short) (right.2 value range)
 
 -- the counter of a processor that works on the registers apart
 pub even_apart : (before : Plain) (cpu value : Cpu) → with_registers before cpu ≡ value → value.regs.pc % 2 ≡ 0 → before.pc % 2 ≡ 0

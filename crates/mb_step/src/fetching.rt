@@ -125,6 +125,7 @@ fn decode_three<P: Port>(
     third: u16,
     third_at: u32,
     longer: &mut Longer,
+    shorts: &mut Shorts,
     processor: &mut Processor,
     port: &mut P,
 ) -> Result<u8, Finish>
@@ -143,6 +144,7 @@ fn decode_three<P: Port>(
                 longer
                     .three_words
                     .keep(first, second, third, &longer.instruction);
+                shorts.learn_with_long(first, second, third, &longer.instruction);
             }
             Ok(length)
         }
@@ -169,6 +171,7 @@ fn find_three<P: Port>(
     second: u16,
     second_at: u32,
     longer: &mut Longer,
+    shorts: &mut Shorts,
     processor: &mut Processor,
     port: &mut P,
 ) -> Result<u8, Finish>
@@ -190,7 +193,9 @@ fn find_three<P: Port>(
         longer.instruction = *kept;
         return Ok(3);
     }
-    decode_three(first, second, third, third_at, longer, processor, port)
+    decode_three(
+        first, second, third, third_at, longer, shorts, processor, port,
+    )
 }
 
 /// Decodes the first two words, the second of which was fetched from `second_at`, and those that follow where an
@@ -228,7 +233,7 @@ fn decode_longer<P: Port>(
         }
         Decoding::More => {
             longer.words.keep(first, second, Decoded::More);
-            find_three(first, second, second_at, longer, processor, port)
+            find_three(first, second, second_at, longer, shorts, processor, port)
         }
         Decoding::Illegal => Err(processor.refuse(ILLEGAL, port)),
         Decoding::LineA => Err(processor.refuse(LINE_A, port)),
@@ -262,7 +267,9 @@ fn find_longer<P: Port>(
             longer.instruction = *kept;
             Ok(*length)
         }
-        Some(Decoded::More) => find_three(first, second, second_at, longer, processor, port),
+        Some(Decoded::More) => find_three(
+            first, second, second_at, longer, shorts, processor, port,
+        ),
         _ => decode_longer(first, second, second_at, longer, shorts, processor, port),
     }
 }

@@ -2,7 +2,8 @@
 use Rattle.std.proofs.Common.{◌≡◌, ◌∙◌, ℕ, ◌<◌, ◌^◌, List, [], ◌∷◌, ◌++◌, length, refl, ap, sym, subst, Option, Some, None, IfSome, inl, inr, arith}
 use Rattle.std.proofs.lemmas.Bool.{cases_eq}
 use Rattle.std.proofs.lemmas.List.{get_or-set_same, get_or-set_other, get_or_read, length-replicate, length-set}
-use Rattle.std.specs.Prelude.{zero, suc, replicate, slice_index_or, slice_set}
+use Rattle.std.specs.Prelude.{⊤, zero, suc, ◌/◌, ◌%◌, true, nat_lt, replicate, slice_index_or, slice_set}
+use Rattle.std.proofs.lemmas.Bool.Decides.{nat_tests}
 use Rattle.mb_instr.specs.declared.instruction.Instr.{Instr}
 use Rattle.mb_instr.specs.declared.instruction.Instr.TheVariants as instr
 use Rattle.mb_instr.specs.declared.instruction.Move.TheVariants as move
@@ -11,8 +12,9 @@ use Rattle.mb_instr.specs.declared.size.Size.{Size}
 use Rattle.mb_instr.specs.declared.kinds.Branch.TheVariants as branch
 use Rattle.mb_instr.specs.declared.kinds.Condition.{Condition}
 use Rattle.mb_instr.specs.declared.kinds.Condition.TheVariants as condition
-use Rattle.mb_instr.specs.declared.size.Size.TheVariants.{Long}
-use Rattle.mb_instr.specs.declared.operand.Ea.TheVariants.{Dn, Disp}
+use Rattle.mb_instr.specs.declared.size.Size.TheVariants.{Byte, Word, Long}
+use Rattle.mb_instr.specs.declared.operand.Ea.TheVariants.{Dn, Disp, AbsL}
+use Rattle.mb_instr.specs.Operands.{long_words}
 use Rattle.mb_instr.specs.Opcodes.{word_of, IsOpcode}
 use Rattle.mb_instr.specs.Shapes.{further}
 use Rattle.mb_instr.specs.Rows.{row}
@@ -20,7 +22,7 @@ use Rattle.mb_instr.specs.Codes.{Codes, IsInstr, AreWords}
 use Rattle.mb_instr.proofs.Words.{AreWords-cons, AreWords-nil}
 use Rattle.mb_decode.specs.declared.front.Decoded.{Decoded}
 use Rattle.mb_decode.specs.declared.front.Decoded.TheVariants.{Whole, More}
-use Rattle.mb_decode.specs.Decodes.{decode_of, Decodes, BeginsWith, IfWhole, AllDecoded, ReadAgain}
+use Rattle.mb_decode.specs.Decodes.{decode_of, Decodes, BeginsWith, IfWhole, AllDecoded, OneAnswer, ReadAgain}
 use Rattle.mb_table.specs.declared.forms.Place.{Place}
 use Rattle.mb_table.specs.declared.forms.Place.TheVariants as place
 use Rattle.mb_table.specs.declared.forms.Taking.{Taking}
@@ -32,8 +34,9 @@ use Rattle.mb_table.specs.declared.forms.Update.TheVariants as update
 use Rattle.mb_table.specs.declared.short.Short.{Short}
 use Rattle.mb_table.specs.declared.short.Short.TheVariants as short
 use Rattle.mb_table.specs.FirstWords.{alone}
-use Rattle.mb_table.specs.Forms.{place_ea, taking_of, putting_of, update_of, copy_of}
-use Rattle.mb_table.specs.Short.{meaning, meaning_with, IsAlone, IsWith, IsShort}
+use Rattle.mb_table.specs.Forms.{place_ea, taking_of, immediate_of, putting_of, update_of, copy_of}
+use Rattle.mb_table.specs.Short.{meaning, meaning_with, meaning_with_long, IsAlone, IsWith, IsWithLong, IsShort}
+use Rattle.mb_table.specs.Short.{IsOfOneWord, IsOfTwoWords, IsOfThreeWords}
 
 -- ---- a word by itself
 
@@ -46,40 +49,52 @@ if_none : (P : Instr → Type 0) (m : Option Instr) → m ≡ None → IfSome m 
 if_none P m e = subst (λ (x : Option Instr). IfSome x P) (sym e) tt
 
 pub learnt : (first : ℕ) (d : Decoded) (s : Short) → d ≡ alone first → IfWhole d (λ i n. IsInstr i)
-    → IfSome (meaning s) (λ i. d ≡ Whole i 1) → ((second : ℕ) → meaning_with second s ≡ None) → IsShort first s
-learnt first d s e valid h none =
-    (alone_is first d (meaning s) e valid h, λ second range. if_none (IsWith first second) (meaning_with second s) (none second))
+    → IfSome (meaning s) (λ i. d ≡ Whole i 1) → IsOfOneWord s → IsShort first s
+learnt first d s e valid h none = (
+  alone_is first d (meaning s) e valid h,
+  λ second range. if_none (IsWith first second) (meaning_with second s) (none.0 second),
+  λ value range. if_none (IsWithLong first value) (meaning_with_long value s) (none.1 value),
+)
 
--- ---- a word with any second one
+-- ---- a word with any others behind it
 
--- instructions of two words that are alike but for the second
-pub record IsDisplaced (f : ℕ → Instr) : Type 0 where
-  pub legal : (d e : ℕ) → (row (f d)).legal ≡ (row (f e)).legal
+-- Instructions that are alike but for a number of such ones, which their words behind the first spell.
+pub record IsAlike (Fits : ℕ → Type 0) (spelled : ℕ → List ℕ) (f : ℕ → Instr) : Type 0 where
+  pub legal : (d e : ℕ) → Fits d → Fits e → (row (f d)).legal ≡ (row (f e)).legal
   pub opcode : (d e : ℕ) → (row (f d)).opcode ≡ (row (f e)).opcode
-  pub second : (d : ℕ) → further (row (f d)) ≡ d ∷ []
+  pub words : (d : ℕ) → further (row (f d)) ≡ spelled d
 
 abbrev first_of : List ℕ → ℕ
 first_of [] = 0
 first_of (w ∷ ws) = w
 
-first_word : (i : Instr) (first second : ℕ) (w rest : List ℕ) → Codes i w → first ∷ second ∷ [] ≡ w ++ rest → first ≡ word_of (row i).opcode
-first_word i first second w rest codes e = ap first_of e ∙ ap (λ (ws : List ℕ). first_of (ws ++ rest)) codes.words
+first_word : (i : Instr) (first : ℕ) (others w rest : List ℕ) → Codes i w → first ∷ others ≡ w ++ rest → first ≡ word_of (row i).opcode
+first_word i first others w rest codes e = ap first_of e ∙ ap (λ (ws : List ℕ). first_of (ws ++ rest)) codes.words
 
-codes_with : (f : ℕ → Instr) (first second d : ℕ) (w rest : List ℕ) → IsDisplaced f → d < 2 ^ 16 → Codes (f second) w
-    → first ∷ second ∷ [] ≡ w ++ rest → Codes (f d) (first ∷ d ∷ [])
-codes_with f first second d w rest same range codes e = record {
+codes_with : (Fits : ℕ → Type 0) (spelled : ℕ → List ℕ) (f : ℕ → Instr) (first given d : ℕ) (others w rest : List ℕ) → IsAlike Fits spelled f
+    → Fits given → Fits d → AreWords (spelled d) → Codes (f given) w → first ∷ others ≡ w ++ rest → Codes (f d) (first ∷ spelled d)
+codes_with Fits spelled f first given d others w rest same range range_d are codes e = record {
   has = record {
-    legal = same.legal d second ∙ codes.has.legal;
-    fields = subst IsOpcode (same.opcode second d) codes.has.fields;
-    are_words = subst AreWords (sym (same.second d)) (AreWords-cons d [] range AreWords-nil);
+    legal = same.legal d given range_d range ∙ codes.has.legal;
+    fields = subst IsOpcode (same.opcode given d) codes.has.fields;
+    are_words = subst AreWords (sym (same.words d)) are;
   };
   words =
-      ap (λ (x : ℕ). x ∷ d ∷ []) (first_word (f second) first second w rest codes e ∙ ap word_of (same.opcode second d))
-      ∙ ap (λ (ws : List ℕ). word_of (row (f d)).opcode ∷ ws) (sym (same.second d));
+      ap (λ (x : ℕ). x ∷ spelled d) (first_word (f given) first others w rest codes e ∙ ap word_of (same.opcode given d))
+      ∙ ap (λ (ws : List ℕ). word_of (row (f d)).opcode ∷ ws) (sym (same.words d));
 }
 
 begins : (words : List ℕ) (i : Instr) (n : ℕ) → AllDecoded → AreWords words → decode_of words ≡ Whole i n → BeginsWith words i n
 begins words i n all range e = subst (λ (d : Decoded). Decodes words d) e (all words range)
+
+abbrev FitsWord : ℕ → Type 0
+FitsWord d = d < 2 ^ 16
+
+abbrev one_word : ℕ → List ℕ
+one_word d = d ∷ []
+
+abbrev IsDisplaced : (ℕ → Instr) → Type 0
+IsDisplaced f = IsAlike FitsWord one_word f
 
 pub any_second : (f : ℕ → Instr) (first second : ℕ) → IsDisplaced f → AllDecoded → ReadAgain → first < 2 ^ 16 → second < 2 ^ 16
     → alone first ≡ More → decode_of (first ∷ second ∷ []) ≡ Whole (f second) 2
@@ -87,60 +102,90 @@ pub any_second : (f : ℕ → Instr) (first second : ℕ) → IsDisplaced f → 
 any_second f first second same all again range range' more e d range_d =
     let words = AreWords-cons first (second ∷ []) range (AreWords-cons second [] range' AreWords-nil) in
     let (w, rest, codes, is, n) = begins (first ∷ second ∷ []) (f second) 2 all words e in
-    let mine = codes_with f first second d w rest same range_d codes is in
+    let mine = codes_with FitsWord one_word f first second d (second ∷ []) w rest same range' range_d (AreWords-cons d [] range_d AreWords-nil) codes is in
     (more, again (f d) (first ∷ d ∷ []) [] mine, mine.has)
 
 load_displaced : (n m : ℕ) → IsDisplaced (λ d. instr.Move (move.Move Long (Dn n) (Disp m d)))
-load_displaced n m = record { legal = λ d e. refl; opcode = λ d e. refl; second = λ d. refl }
+load_displaced n m = record { legal = λ d e h k. refl; opcode = λ d e. refl; words = λ d. refl }
 
 store_displaced : (n m : ℕ) → IsDisplaced (λ d. instr.Move (move.Move Long (Disp m d) (Dn n)))
-store_displaced n m = record { legal = λ d e. refl; opcode = λ d e. refl; second = λ d. refl }
+store_displaced n m = record { legal = λ d e h k. refl; opcode = λ d e. refl; words = λ d. refl }
 
 branch_displaced : (c : Condition) → IsDisplaced (λ d. instr.Flow (flow.Bcc c (branch.Word d)))
-branch_displaced c = record { legal = λ d e. refl; opcode = λ d e. refl; second = λ d. refl }
+branch_displaced c = record { legal = λ d e h k. refl; opcode = λ d e. refl; words = λ d. refl }
 
 loop_displaced : (c : Condition) (n : ℕ) → IsDisplaced (λ d. instr.Flow (flow.Dbcc c n d))
-loop_displaced c n = record { legal = λ d e. refl; opcode = λ d e. refl; second = λ d. refl }
+loop_displaced c n = record { legal = λ d e h k. refl; opcode = λ d e. refl; words = λ d. refl }
 
 take_displaced : (t : Taking) (size : Size) (m : ℕ) → IsDisplaced (λ d. taking_of t size (Disp m d))
-take_displaced (taking.Move n) size m = record { legal = λ d e. refl; opcode = λ d e. refl; second = λ d. refl }
-take_displaced (taking.MoveAddress n) size m = record { legal = λ d e. refl; opcode = λ d e. refl; second = λ d. refl }
-take_displaced (taking.Add n) size m = record { legal = λ d e. refl; opcode = λ d e. refl; second = λ d. refl }
-take_displaced (taking.Subtract n) size m = record { legal = λ d e. refl; opcode = λ d e. refl; second = λ d. refl }
-take_displaced (taking.And n) size m = record { legal = λ d e. refl; opcode = λ d e. refl; second = λ d. refl }
-take_displaced (taking.Or n) size m = record { legal = λ d e. refl; opcode = λ d e. refl; second = λ d. refl }
-take_displaced (taking.Compare n) size m = record { legal = λ d e. refl; opcode = λ d e. refl; second = λ d. refl }
-take_displaced (taking.AddAddress n) size m = record { legal = λ d e. refl; opcode = λ d e. refl; second = λ d. refl }
-take_displaced (taking.SubtractAddress n) size m = record { legal = λ d e. refl; opcode = λ d e. refl; second = λ d. refl }
-take_displaced (taking.CompareAddress n) size m = record { legal = λ d e. refl; opcode = λ d e. refl; second = λ d. refl }
-take_displaced taking.Test size m = record { legal = λ d e. refl; opcode = λ d e. refl; second = λ d. refl }
+take_displaced (taking.Move n) size m = record { legal = λ d e h k. refl; opcode = λ d e. refl; words = λ d. refl }
+take_displaced (taking.MoveAddress n) size m = record { legal = λ d e h k. refl; opcode = λ d e. refl; words = λ d. refl }
+take_displaced (taking.Add n) size m = record { legal = λ d e h k. refl; opcode = λ d e. refl; words = λ d. refl }
+take_displaced (taking.Subtract n) size m = record { legal = λ d e h k. refl; opcode = λ d e. refl; words = λ d. refl }
+take_displaced (taking.And n) size m = record { legal = λ d e h k. refl; opcode = λ d e. refl; words = λ d. refl }
+take_displaced (taking.Or n) size m = record { legal = λ d e h k. refl; opcode = λ d e. refl; words = λ d. refl }
+take_displaced (taking.Compare n) size m = record { legal = λ d e h k. refl; opcode = λ d e. refl; words = λ d. refl }
+take_displaced (taking.AddAddress n) size m = record { legal = λ d e h k. refl; opcode = λ d e. refl; words = λ d. refl }
+take_displaced (taking.SubtractAddress n) size m = record { legal = λ d e h k. refl; opcode = λ d e. refl; words = λ d. refl }
+take_displaced (taking.CompareAddress n) size m = record { legal = λ d e h k. refl; opcode = λ d e. refl; words = λ d. refl }
+take_displaced taking.Test size m = record { legal = λ d e h k. refl; opcode = λ d e. refl; words = λ d. refl }
 
 put_displaced : (t : Putting) (size : Size) (m : ℕ) → IsDisplaced (λ d. putting_of t size (Disp m d))
-put_displaced (putting.Data n) size m = record { legal = λ d e. refl; opcode = λ d e. refl; second = λ d. refl }
-put_displaced (putting.Address n) size m = record { legal = λ d e. refl; opcode = λ d e. refl; second = λ d. refl }
-put_displaced putting.Zero size m = record { legal = λ d e. refl; opcode = λ d e. refl; second = λ d. refl }
+put_displaced (putting.Data n) size m = record { legal = λ d e h k. refl; opcode = λ d e. refl; words = λ d. refl }
+put_displaced (putting.Address n) size m = record { legal = λ d e h k. refl; opcode = λ d e. refl; words = λ d. refl }
+put_displaced putting.Zero size m = record { legal = λ d e h k. refl; opcode = λ d e. refl; words = λ d. refl }
 
 update_displaced : (t : Update) (size : Size) (m : ℕ) → IsDisplaced (λ d. update_of t size (Disp m d))
-update_displaced (update.Add n) size m = record { legal = λ d e. refl; opcode = λ d e. refl; second = λ d. refl }
-update_displaced (update.Subtract n) size m = record { legal = λ d e. refl; opcode = λ d e. refl; second = λ d. refl }
-update_displaced (update.And n) size m = record { legal = λ d e. refl; opcode = λ d e. refl; second = λ d. refl }
-update_displaced (update.Or n) size m = record { legal = λ d e. refl; opcode = λ d e. refl; second = λ d. refl }
-update_displaced (update.ExclusiveOr n) size m = record { legal = λ d e. refl; opcode = λ d e. refl; second = λ d. refl }
-update_displaced (update.AddQuick n) size m = record { legal = λ d e. refl; opcode = λ d e. refl; second = λ d. refl }
-update_displaced (update.SubtractQuick n) size m = record { legal = λ d e. refl; opcode = λ d e. refl; second = λ d. refl }
-update_displaced update.Negate size m = record { legal = λ d e. refl; opcode = λ d e. refl; second = λ d. refl }
-update_displaced update.Complement size m = record { legal = λ d e. refl; opcode = λ d e. refl; second = λ d. refl }
+update_displaced (update.Add n) size m = record { legal = λ d e h k. refl; opcode = λ d e. refl; words = λ d. refl }
+update_displaced (update.Subtract n) size m = record { legal = λ d e h k. refl; opcode = λ d e. refl; words = λ d. refl }
+update_displaced (update.And n) size m = record { legal = λ d e h k. refl; opcode = λ d e. refl; words = λ d. refl }
+update_displaced (update.Or n) size m = record { legal = λ d e h k. refl; opcode = λ d e. refl; words = λ d. refl }
+update_displaced (update.ExclusiveOr n) size m = record { legal = λ d e h k. refl; opcode = λ d e. refl; words = λ d. refl }
+update_displaced (update.AddQuick n) size m = record { legal = λ d e h k. refl; opcode = λ d e. refl; words = λ d. refl }
+update_displaced (update.SubtractQuick n) size m = record { legal = λ d e h k. refl; opcode = λ d e. refl; words = λ d. refl }
+update_displaced update.Negate size m = record { legal = λ d e h k. refl; opcode = λ d e. refl; words = λ d. refl }
+update_displaced update.Complement size m = record { legal = λ d e h k. refl; opcode = λ d e. refl; words = λ d. refl }
 
 copy_displaced : (size : Size) (m : ℕ) (place : Place) → IsDisplaced (λ d. copy_of size (place_ea place) (Disp m d))
-copy_displaced size m (place.At n) = record { legal = λ d e. refl; opcode = λ d e. refl; second = λ d. refl }
-copy_displaced size m (place.Up n) = record { legal = λ d e. refl; opcode = λ d e. refl; second = λ d. refl }
-copy_displaced size m (place.Down n) = record { legal = λ d e. refl; opcode = λ d e. refl; second = λ d. refl }
+copy_displaced size m (place.At n) = record { legal = λ d e h k. refl; opcode = λ d e. refl; words = λ d. refl }
+copy_displaced size m (place.Up n) = record { legal = λ d e h k. refl; opcode = λ d e. refl; words = λ d. refl }
+copy_displaced size m (place.Down n) = record { legal = λ d e h k. refl; opcode = λ d e. refl; words = λ d. refl }
 
 address_displaced : (n m : ℕ) → IsDisplaced (λ d. instr.Move (move.Lea n (Disp m d)))
-address_displaced n m = record { legal = λ d e. refl; opcode = λ d e. refl; second = λ d. refl }
+address_displaced n m = record { legal = λ d e h k. refl; opcode = λ d e. refl; words = λ d. refl }
 
 link_displaced : (n : ℕ) → IsDisplaced (λ d. instr.Move (move.LinkW n d))
-link_displaced n = record { legal = λ d e. refl; opcode = λ d e. refl; second = λ d. refl }
+link_displaced n = record { legal = λ d e h k. refl; opcode = λ d e. refl; words = λ d. refl }
+
+is_word : (d : ℕ) → d < 2 ^ 16 → nat_lt d 65536 ≡ true
+is_word d h = grind (arith, nat_tests)
+
+-- immediates of one word
+byte_displaced : (t : Taking) → IsDisplaced (λ d. immediate_of t Byte d)
+byte_displaced (taking.Move n) = record { legal = λ d e h k. rw (is_word d h, is_word e k) refl; opcode = λ d e. refl; words = λ d. refl }
+byte_displaced (taking.MoveAddress n) = record { legal = λ d e h k. refl; opcode = λ d e. refl; words = λ d. refl }
+byte_displaced (taking.Add n) = record { legal = λ d e h k. rw (is_word d h, is_word e k) refl; opcode = λ d e. refl; words = λ d. refl }
+byte_displaced (taking.Subtract n) = record { legal = λ d e h k. rw (is_word d h, is_word e k) refl; opcode = λ d e. refl; words = λ d. refl }
+byte_displaced (taking.And n) = record { legal = λ d e h k. rw (is_word d h, is_word e k) refl; opcode = λ d e. refl; words = λ d. refl }
+byte_displaced (taking.Or n) = record { legal = λ d e h k. rw (is_word d h, is_word e k) refl; opcode = λ d e. refl; words = λ d. refl }
+byte_displaced (taking.Compare n) = record { legal = λ d e h k. rw (is_word d h, is_word e k) refl; opcode = λ d e. refl; words = λ d. refl }
+byte_displaced (taking.AddAddress n) = record { legal = λ d e h k. refl; opcode = λ d e. refl; words = λ d. refl }
+byte_displaced (taking.SubtractAddress n) = record { legal = λ d e h k. refl; opcode = λ d e. refl; words = λ d. refl }
+byte_displaced (taking.CompareAddress n) = record { legal = λ d e h k. refl; opcode = λ d e. refl; words = λ d. refl }
+byte_displaced taking.Test = record { legal = λ d e h k. rw (is_word d h, is_word e k) refl; opcode = λ d e. refl; words = λ d. refl }
+
+word_displaced : (t : Taking) → IsDisplaced (λ d. immediate_of t Word d)
+word_displaced (taking.Move n) = record { legal = λ d e h k. rw (is_word d h, is_word e k) refl; opcode = λ d e. refl; words = λ d. refl }
+word_displaced (taking.MoveAddress n) = record { legal = λ d e h k. rw (is_word d h, is_word e k) refl; opcode = λ d e. refl; words = λ d. refl }
+word_displaced (taking.Add n) = record { legal = λ d e h k. rw (is_word d h, is_word e k) refl; opcode = λ d e. refl; words = λ d. refl }
+word_displaced (taking.Subtract n) = record { legal = λ d e h k. rw (is_word d h, is_word e k) refl; opcode = λ d e. refl; words = λ d. refl }
+word_displaced (taking.And n) = record { legal = λ d e h k. rw (is_word d h, is_word e k) refl; opcode = λ d e. refl; words = λ d. refl }
+word_displaced (taking.Or n) = record { legal = λ d e h k. rw (is_word d h, is_word e k) refl; opcode = λ d e. refl; words = λ d. refl }
+word_displaced (taking.Compare n) = record { legal = λ d e h k. rw (is_word d h, is_word e k) refl; opcode = λ d e. refl; words = λ d. refl }
+word_displaced (taking.AddAddress n) = record { legal = λ d e h k. rw (is_word d h, is_word e k) refl; opcode = λ d e. refl; words = λ d. refl }
+word_displaced (taking.SubtractAddress n) = record { legal = λ d e h k. rw (is_word d h, is_word e k) refl; opcode = λ d e. refl; words = λ d. refl }
+word_displaced (taking.CompareAddress n) = record { legal = λ d e h k. rw (is_word d h, is_word e k) refl; opcode = λ d e. refl; words = λ d. refl }
+word_displaced taking.Test = record { legal = λ d e h k. rw (is_word d h, is_word e k) refl; opcode = λ d e. refl; words = λ d. refl }
 
 -- by a form that has a meaning with each second word, or with none
 with_any : (first second : ℕ) (i : Instr) (s : Short) → AllDecoded → ReadAgain → first < 2 ^ 16 → second < 2 ^ 16
@@ -161,6 +206,10 @@ with_any first second i (short.Loop c n) all again r r' more e h d k =
 with_any first second i (short.TakeNear t size m) all again r r' more e h d k =
     any_second (λ d. taking_of t size (Disp m d)) first second (take_displaced t size m) all again r r' more
     (e ∙ ap (λ (j : Instr). Whole j 2) h) d k
+with_any first second i (short.TakeImmediate t Byte) all again r r' more e h d k =
+    any_second (λ d. immediate_of t Byte d) first second (byte_displaced t) all again r r' more (e ∙ ap (λ (j : Instr). Whole j 2) h) d k
+with_any first second i (short.TakeImmediate t Word) all again r r' more e h d k =
+    any_second (λ d. immediate_of t Word d) first second (word_displaced t) all again r r' more (e ∙ ap (λ (j : Instr). Whole j 2) h) d k
 with_any first second i (short.PutNear t size m) all again r r' more e h d k =
     any_second (λ d. putting_of t size (Disp m d)) first second (put_displaced t size m) all again r r' more
     (e ∙ ap (λ (j : Instr). Whole j 2) h) d k
@@ -183,9 +232,102 @@ with_any first second i _ all again r r' more e h d k = tt
 
 pub learnt_with : (first second : ℕ) (i : Instr) (s : Short) → AllDecoded → ReadAgain → first < 2 ^ 16 → second < 2 ^ 16
     → alone first ≡ More → decode_of (first ∷ second ∷ []) ≡ Whole i 2 → IfSome (meaning_with second s) (λ j. i ≡ j)
-    → meaning s ≡ None → IsShort first s
-learnt_with first second i s all again r r' more e h none =
-    (if_none (IsAlone first) (meaning s) none, with_any first second i s all again r r' more e h)
+    → IsOfTwoWords s → IsShort first s
+learnt_with first second i s all again r r' more e h none = (
+  if_none (IsAlone first) (meaning s) none.0,
+  with_any first second i s all again r r' more e h,
+  λ value range. if_none (IsWithLong first value) (meaning_with_long value s) (none.1 value),
+)
+
+-- ---- a word with any long
+
+-- two words spell a long, and no number is refused
+abbrev Every : ℕ → Type 0
+Every v = ⊤
+
+abbrev IsLong : (ℕ → Instr) → Type 0
+IsLong f = IsAlike Every long_words f
+
+long_are_words : (v : ℕ) → v < 2 ^ 32 → AreWords (long_words v)
+long_are_words v h =
+    AreWords-cons (v / 65536) (v % 65536 ∷ []) (omega (arith, h)) (AreWords-cons (v % 65536) [] (omega arith) AreWords-nil)
+
+pub any_long : (f : ℕ → Instr) (first second third given : ℕ) → IsLong f → AllDecoded → OneAnswer → ReadAgain → first < 2 ^ 16 → second < 2 ^ 16
+    → third < 2 ^ 16 → decode_of (first ∷ second ∷ third ∷ []) ≡ Whole (f given) 3
+    → (v : ℕ) → v < 2 ^ 32 → IsWithLong first v (f v)
+any_long f first second third given same all one again r r' r'' e v range_v =
+    let words = AreWords-cons first (second ∷ third ∷ []) r (AreWords-cons second (third ∷ []) r' (AreWords-cons third [] r'' AreWords-nil)) in
+    let (w, rest, codes, is, n) = begins (first ∷ second ∷ third ∷ []) (f given) 3 all words e in
+    let mine = codes_with Every long_words f first given v (second ∷ third ∷ []) w rest same tt tt (long_are_words v range_v) codes is in
+    let high : v / 65536 < 2 ^ 16 = omega (arith, range_v) in
+    let alone_words = AreWords-cons first [] r AreWords-nil in
+    let two_words = AreWords-cons first (v / 65536 ∷ []) r (AreWords-cons (v / 65536) [] high AreWords-nil) in (
+      one (first ∷ []) (decode_of (first ∷ [])) More (all (first ∷ []) alone_words) (f v, v / 65536, v % 65536 ∷ [], mine),
+      one (first ∷ v / 65536 ∷ []) (decode_of (first ∷ v / 65536 ∷ [])) More (all (first ∷ v / 65536 ∷ []) two_words) (f v, v % 65536, [], mine),
+      again (f v) (first ∷ long_words v) [] mine,
+      mine.has,
+    )
+
+immediate_long : (t : Taking) → IsLong (λ v. immediate_of t Long v)
+immediate_long (taking.Move n) = record { legal = λ d e h k. refl; opcode = λ d e. refl; words = λ d. refl }
+immediate_long (taking.MoveAddress n) = record { legal = λ d e h k. refl; opcode = λ d e. refl; words = λ d. refl }
+immediate_long (taking.Add n) = record { legal = λ d e h k. refl; opcode = λ d e. refl; words = λ d. refl }
+immediate_long (taking.Subtract n) = record { legal = λ d e h k. refl; opcode = λ d e. refl; words = λ d. refl }
+immediate_long (taking.And n) = record { legal = λ d e h k. refl; opcode = λ d e. refl; words = λ d. refl }
+immediate_long (taking.Or n) = record { legal = λ d e h k. refl; opcode = λ d e. refl; words = λ d. refl }
+immediate_long (taking.Compare n) = record { legal = λ d e h k. refl; opcode = λ d e. refl; words = λ d. refl }
+immediate_long (taking.AddAddress n) = record { legal = λ d e h k. refl; opcode = λ d e. refl; words = λ d. refl }
+immediate_long (taking.SubtractAddress n) = record { legal = λ d e h k. refl; opcode = λ d e. refl; words = λ d. refl }
+immediate_long (taking.CompareAddress n) = record { legal = λ d e h k. refl; opcode = λ d e. refl; words = λ d. refl }
+immediate_long taking.Test = record { legal = λ d e h k. refl; opcode = λ d e. refl; words = λ d. refl }
+
+take_long : (t : Taking) (size : Size) → IsLong (λ v. taking_of t size (AbsL v))
+take_long (taking.Move n) size = record { legal = λ d e h k. refl; opcode = λ d e. refl; words = λ d. refl }
+take_long (taking.MoveAddress n) size = record { legal = λ d e h k. refl; opcode = λ d e. refl; words = λ d. refl }
+take_long (taking.Add n) size = record { legal = λ d e h k. refl; opcode = λ d e. refl; words = λ d. refl }
+take_long (taking.Subtract n) size = record { legal = λ d e h k. refl; opcode = λ d e. refl; words = λ d. refl }
+take_long (taking.And n) size = record { legal = λ d e h k. refl; opcode = λ d e. refl; words = λ d. refl }
+take_long (taking.Or n) size = record { legal = λ d e h k. refl; opcode = λ d e. refl; words = λ d. refl }
+take_long (taking.Compare n) size = record { legal = λ d e h k. refl; opcode = λ d e. refl; words = λ d. refl }
+take_long (taking.AddAddress n) size = record { legal = λ d e h k. refl; opcode = λ d e. refl; words = λ d. refl }
+take_long (taking.SubtractAddress n) size = record { legal = λ d e h k. refl; opcode = λ d e. refl; words = λ d. refl }
+take_long (taking.CompareAddress n) size = record { legal = λ d e h k. refl; opcode = λ d e. refl; words = λ d. refl }
+take_long taking.Test size = record { legal = λ d e h k. refl; opcode = λ d e. refl; words = λ d. refl }
+
+put_long : (t : Putting) (size : Size) → IsLong (λ v. putting_of t size (AbsL v))
+put_long (putting.Data n) size = record { legal = λ d e h k. refl; opcode = λ d e. refl; words = λ d. refl }
+put_long (putting.Address n) size = record { legal = λ d e h k. refl; opcode = λ d e. refl; words = λ d. refl }
+put_long putting.Zero size = record { legal = λ d e h k. refl; opcode = λ d e. refl; words = λ d. refl }
+
+address_long : (n : ℕ) → IsLong (λ v. instr.Move (move.Lea n (AbsL v)))
+address_long n = record { legal = λ d e h k. refl; opcode = λ d e. refl; words = λ d. refl }
+
+-- by a form that has a meaning with each long, or with none
+with_any_long : (first second third given : ℕ) (i : Instr) (s : Short) → AllDecoded → OneAnswer → ReadAgain → first < 2 ^ 16 → second < 2 ^ 16
+    → third < 2 ^ 16 → decode_of (first ∷ second ∷ third ∷ []) ≡ Whole i 3 → IfSome (meaning_with_long given s) (λ j. i ≡ j)
+    → (v : ℕ) → v < 2 ^ 32 → IfSome (meaning_with_long v s) (IsWithLong first v)
+with_any_long first second third given i (short.TakeImmediate t Long) all one again r r' r'' e h v k =
+    any_long (λ v. immediate_of t Long v) first second third given (immediate_long t) all one again r r' r''
+    (e ∙ ap (λ (j : Instr). Whole j 3) h) v k
+with_any_long first second third given i (short.TakeAbsolute t size) all one again r r' r'' e h v k =
+    any_long (λ v. taking_of t size (AbsL v)) first second third given (take_long t size) all one again r r' r''
+    (e ∙ ap (λ (j : Instr). Whole j 3) h) v k
+with_any_long first second third given i (short.PutAbsolute t size) all one again r r' r'' e h v k =
+    any_long (λ v. putting_of t size (AbsL v)) first second third given (put_long t size) all one again r r' r''
+    (e ∙ ap (λ (j : Instr). Whole j 3) h) v k
+with_any_long first second third given i (short.AddressAbsolute n) all one again r r' r'' e h v k =
+    any_long (λ v. instr.Move (move.Lea n (AbsL v))) first second third given (address_long n) all one again r r' r''
+    (e ∙ ap (λ (j : Instr). Whole j 3) h) v k
+with_any_long first second third given i _ all one again r r' r'' e h v k = tt
+
+pub learnt_with_long : (first second third given : ℕ) (i : Instr) (s : Short) → AllDecoded → OneAnswer → ReadAgain → first < 2 ^ 16
+    → second < 2 ^ 16 → third < 2 ^ 16 → decode_of (first ∷ second ∷ third ∷ []) ≡ Whole i 3
+    → IfSome (meaning_with_long given s) (λ j. i ≡ j) → IsOfThreeWords s → IsShort first s
+learnt_with_long first second third given i s all one again r r' r'' e h none = (
+  if_none (IsAlone first) (meaning s) none.0,
+  λ second range. if_none (IsWith first second) (meaning_with second s) (none.1 second),
+  with_any_long first second third given i s all one again r r' r'' e h,
+)
 
 -- ---- the table
 
@@ -201,7 +343,7 @@ kept forms at s range right all first =
     ]
 
 pub unknown : (first : ℕ) → IsShort first short.Unknown
-unknown first = (tt, λ second range. tt)
+unknown first = (tt, λ second range. tt, λ value range. tt)
 
 all_unknown : (first n : ℕ) → slice_index_or (replicate n short.Unknown) first short.Unknown ≡ short.Unknown
 all_unknown first zero = refl

@@ -3,7 +3,7 @@ use Rattle.std.specs.Prelude.{ℕ, false, true}
 use Rattle.mb_instr.specs.declared.size.Size.{Size}
 use Rattle.mb_instr.specs.declared.kinds.ShiftKind.TheVariants.{Arithmetic, Logical, Rotate}
 use Rattle.mb_instr.specs.declared.operand.Ea.{Ea}
-use Rattle.mb_instr.specs.declared.operand.Ea.TheVariants.{Dn, An, Ind, Post, Pre}
+use Rattle.mb_instr.specs.declared.operand.Ea.TheVariants.{Dn, An, Ind, Post, Pre, Imm}
 use Rattle.mb_instr.specs.declared.instruction.Instr.{Instr}
 use Rattle.mb_instr.specs.declared.instruction.Instr.TheVariants as instr
 use Rattle.mb_instr.specs.declared.instruction.Move.TheVariants as move
@@ -43,6 +43,15 @@ taking_of (taking.AddAddress n) size ea = instr.Arith (arith.Adda n size ea)
 taking_of (taking.SubtractAddress n) size ea = instr.Arith (arith.Suba n size ea)
 taking_of (taking.CompareAddress n) size ea = instr.Arith (arith.Cmpa n size ea)
 taking_of taking.Test size ea = instr.Arith (arith.Tst size ea)
+
+-- the instruction that reads this immediate; where it is combined with a data register it has a row of its own
+abbrev pub immediate_of : Taking → Size → ℕ → Instr
+immediate_of (taking.Add n) size value = instr.Arith (arith.Addi size (Dn n) value)
+immediate_of (taking.Subtract n) size value = instr.Arith (arith.Subi size (Dn n) value)
+immediate_of (taking.And n) size value = instr.Arith (arith.Andi size (Dn n) value)
+immediate_of (taking.Or n) size value = instr.Arith (arith.Ori size (Dn n) value)
+immediate_of (taking.Compare n) size value = instr.Arith (arith.Cmpi size (Dn n) value)
+immediate_of taking size value = taking_of taking size (Imm value)
 
 -- the instruction that writes to this operand
 abbrev pub putting_of : Putting → Size → Ea → Instr

@@ -1,8 +1,8 @@
 -- What instructions in short say.
-use Rattle.std.specs.Prelude.{◌≡◌, ℕ, ◌<◌, ◌^◌, [], ◌∷◌, Option, Some, None, IfSome, false, true}
-use Rattle.mb_instr.specs.declared.size.Size.TheVariants.{Long}
+use Rattle.std.specs.Prelude.{◌≡◌, ℕ, ◌/◌, ◌<◌, ◌^◌, [], ◌∷◌, Option, Some, None, IfSome, false, true}
+use Rattle.mb_instr.specs.declared.size.Size.TheVariants.{Byte, Word, Long}
 use Rattle.mb_instr.specs.declared.kinds.ShiftKind.TheVariants.{Logical}
-use Rattle.mb_instr.specs.declared.operand.Ea.TheVariants.{Dn, An, Post, Disp}
+use Rattle.mb_instr.specs.declared.operand.Ea.TheVariants.{Dn, An, Post, Disp, AbsL}
 use Rattle.mb_instr.specs.declared.instruction.Instr.{Instr}
 use Rattle.mb_instr.specs.declared.instruction.Instr.TheVariants as instr
 use Rattle.mb_instr.specs.declared.instruction.Move.TheVariants as move
@@ -10,13 +10,14 @@ use Rattle.mb_instr.specs.declared.instruction.Arith.TheVariants as arith
 use Rattle.mb_instr.specs.declared.instruction.Flow.TheVariants as flow
 use Rattle.mb_instr.specs.declared.kinds.Branch.TheVariants as branch
 use Rattle.mb_instr.specs.declared.kinds.Condition.TheVariants as condition
+use Rattle.mb_instr.specs.Operands.{long_words}
 use Rattle.mb_instr.specs.Codes.{IsInstr}
 use Rattle.mb_decode.specs.declared.front.Decoded.TheVariants.{Whole, More}
 use Rattle.mb_decode.specs.Decodes.{decode_of}
 use Rattle.mb_table.specs.declared.short.Short.{Short}
 use Rattle.mb_table.specs.declared.short.Short.TheVariants as short
 use Rattle.mb_table.specs.FirstWords.{alone}
-use Rattle.mb_table.specs.Forms.{register_ea, place_ea, taking_of, putting_of, update_of, copy_of, change_of}
+use Rattle.mb_table.specs.Forms.{register_ea, place_ea, taking_of, immediate_of, putting_of, update_of, copy_of, change_of}
 
 -- the instruction of one word that a short form is
 abbrev pub meaning : Short → Option Instr
@@ -58,6 +59,8 @@ meaning_with d (short.StoreLong n m) = Some (instr.Move (move.Move Long (Disp m 
 meaning_with d (short.BranchFar c) = Some (instr.Flow (flow.Bcc c (branch.Word d)))
 meaning_with d (short.Loop c n) = Some (instr.Flow (flow.Dbcc c n d))
 meaning_with d (short.TakeNear taking size m) = Some (taking_of taking size (Disp m d))
+meaning_with d (short.TakeImmediate taking Byte) = Some (immediate_of taking Byte d)
+meaning_with d (short.TakeImmediate taking Word) = Some (immediate_of taking Word d)
 meaning_with d (short.PutNear putting size m) = Some (putting_of putting size (Disp m d))
 meaning_with d (short.UpdateNear update size m) = Some (update_of update size (Disp m d))
 meaning_with d (short.CopyNear size m place) = Some (copy_of size (place_ea place) (Disp m d))
@@ -65,6 +68,14 @@ meaning_with d (short.AddressNear n m) = Some (instr.Move (move.Lea n (Disp m d)
 meaning_with d short.CallFar = Some (instr.Flow (flow.Bcc condition.False (branch.Word d)))
 meaning_with d (short.Link n) = Some (instr.Move (move.LinkW n d))
 meaning_with d _ = None
+
+-- the instruction of three words that it is with this long, which the second word and the third are
+abbrev pub meaning_with_long : ℕ → Short → Option Instr
+meaning_with_long value (short.TakeImmediate taking Long) = Some (immediate_of taking Long value)
+meaning_with_long value (short.TakeAbsolute taking size) = Some (taking_of taking size (AbsL value))
+meaning_with_long value (short.PutAbsolute putting size) = Some (putting_of putting size (AbsL value))
+meaning_with_long value (short.AddressAbsolute n) = Some (instr.Move (move.Lea n (AbsL value)))
+meaning_with_long value _ = None
 
 -- a first word is that instruction by itself
 abbrev pub IsAlone : ℕ → Instr → Type 0
@@ -74,8 +85,27 @@ IsAlone first i = (alone first ≡ Whole i 1) × IsInstr i
 abbrev pub IsWith : ℕ → ℕ → Instr → Type 0
 IsWith first second i = (alone first ≡ More) × (decode_of (first ∷ second ∷ []) ≡ Whole i 2) × IsInstr i
 
--- the short form of a first word: with two words it is right whatever the second is
+-- a first word is that instruction with this long
+abbrev pub IsWithLong : ℕ → ℕ → Instr → Type 0
+IsWithLong first value i =
+    (alone first ≡ More) × (decode_of (first ∷ value / 2 ^ 16 ∷ []) ≡ More)
+    × (decode_of (first ∷ long_words value) ≡ Whole i 3) × IsInstr i
+
+-- the short form of a first word: with more words it is right whatever these are
 abbrev pub IsShort : ℕ → Short → Type 0
 IsShort first s =
     IfSome (meaning s) (IsAlone first)
     × ((second : ℕ) → second < 2 ^ 16 → IfSome (meaning_with second s) (IsWith first second))
+    × ((value : ℕ) → value < 2 ^ 32 → IfSome (meaning_with_long value s) (IsWithLong first value))
+
+-- it is no instruction of several words
+abbrev pub IsOfOneWord : Short → Type 0
+IsOfOneWord s = ((second : ℕ) → meaning_with second s ≡ None) × ((value : ℕ) → meaning_with_long value s ≡ None)
+
+-- it is one of two words, or none
+abbrev pub IsOfTwoWords : Short → Type 0
+IsOfTwoWords s = (meaning s ≡ None) × ((value : ℕ) → meaning_with_long value s ≡ None)
+
+-- it is one of three words, or none
+abbrev pub IsOfThreeWords : Short → Type 0
+IsOfThreeWords s = (meaning s ≡ None) × ((second : ℕ) → meaning_with second s ≡ None)

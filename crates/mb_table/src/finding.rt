@@ -1,14 +1,16 @@
 //! The short form of an instruction.
 
-ghost use Rattle.std.specs.Prelude.{◌≡◌, ℕ, None, IfSome};
+ghost use Rattle.std.specs.Prelude.{◌≡◌, IfSome};
 ghost use Rattle.mb_instr.specs.declared.instruction.Instr.TheVariants as instr;
 ghost use Rattle.mb_decode.specs.declared.front.Decoded.TheVariants.{Whole};
 ghost use Rattle.mb_table.specs.Forms.{taking_of, putting_of, update_of};
-ghost use Rattle.mb_table.specs.Short.{meaning, meaning_with};
+ghost use Rattle.mb_table.specs.Short.{meaning, meaning_with, meaning_with_long};
+ghost use Rattle.mb_table.specs.Short.{IsOfOneWord, IsOfTwoWords, IsOfThreeWords};
 
 use crate::forms::{Place, Register};
 use crate::operands::{
-    Changed, Taken, Updated, Written, find_changed, find_taken, find_updated, find_written,
+    Changed, Immediate, Taken, Updated, Written, find_changed, find_immediate, find_taken,
+    find_updated, find_written,
 };
 use crate::short::Short;
 use mb_decode::Decoded;
@@ -18,7 +20,7 @@ use mb_instr::{Arith, Branch, Condition, Ea, Flow, Instr, Move, ShiftKind, Size}
 #[rattlefmt::skip]
 fn short_move(instruction: &Move) -> Short
     ensures means { IfSome (meaning result) (λ i. instr.Move instruction.now ≡ i) }
-    ensures alone { (second : ℕ) → meaning_with second result ≡ None }
+    ensures alone { IsOfOneWord result }
 {
     match *instruction {
         Move::Moveq { register, immediate } => Short::MoveQuick { register, immediate },
@@ -38,7 +40,7 @@ fn short_move(instruction: &Move) -> Short
 #[rattlefmt::skip]
 fn short_long(instruction: &Arith) -> Short
     ensures means { IfSome (meaning result) (λ i. instr.Arith instruction.now ≡ i) }
-    ensures alone { (second : ℕ) → meaning_with second result ≡ None }
+    ensures alone { IsOfOneWord result }
 {
     match *instruction {
         Arith::Add { register, to_memory: false, size: Size::Long, ea: Ea::Dn(source) } =>
@@ -63,7 +65,7 @@ fn short_long(instruction: &Arith) -> Short
 #[rattlefmt::skip]
 fn short_unary(instruction: &Arith) -> Short
     ensures means { IfSome (meaning result) (λ i. instr.Arith instruction.now ≡ i) }
-    ensures alone { (second : ℕ) → meaning_with second result ≡ None }
+    ensures alone { IsOfOneWord result }
 {
     match *instruction {
         Arith::ShiftReg {
@@ -82,7 +84,7 @@ fn short_unary(instruction: &Arith) -> Short
 /// The form of what computes.
 fn short_arith(instruction: &Arith) -> Short
     ensures means { IfSome (meaning result) (λ i. instr.Arith instruction.now ≡ i) }
-    ensures alone { (second : ℕ) → meaning_with second result ≡ None }
+    ensures alone { IsOfOneWord result }
 {
     match short_long(instruction) {
         Short::Other => {}
@@ -112,7 +114,7 @@ fn short_arith(instruction: &Arith) -> Short
 #[rattlefmt::skip]
 fn short_flow(instruction: &Flow) -> Short
     ensures means { IfSome (meaning result) (λ i. instr.Flow instruction.now ≡ i) }
-    ensures alone { (second : ℕ) → meaning_with second result ≡ None }
+    ensures alone { IsOfOneWord result }
 {
     match *instruction {
         Flow::Bcc { condition: Condition::False, displacement: Branch::Byte(displacement) } =>
@@ -127,7 +129,7 @@ fn short_flow(instruction: &Flow) -> Short
 #[rattlefmt::skip]
 fn take_alone(it: &Taken) -> Short
     ensures means { IfSome (meaning result) (λ i. taking_of it.now.taking it.now.size it.now.ea ≡ i) }
-    ensures alone { (second : ℕ) → meaning_with second result ≡ None }
+    ensures alone { IsOfOneWord result }
 {
     let (taking, size) = (it.taking, it.size);
     match it.ea {
@@ -144,7 +146,7 @@ fn take_alone(it: &Taken) -> Short
 #[rattlefmt::skip]
 fn put_alone(it: &Written) -> Short
     ensures means { IfSome (meaning result) (λ i. putting_of it.now.putting it.now.size it.now.ea ≡ i) }
-    ensures alone { (second : ℕ) → meaning_with second result ≡ None }
+    ensures alone { IsOfOneWord result }
 {
     let (putting, size) = (it.putting, it.size);
     match it.ea {
@@ -159,7 +161,7 @@ fn put_alone(it: &Written) -> Short
 #[rattlefmt::skip]
 fn update_alone(it: &Updated) -> Short
     ensures means { IfSome (meaning result) (λ i. update_of it.now.update it.now.size it.now.ea ≡ i) }
-    ensures alone { (second : ℕ) → meaning_with second result ≡ None }
+    ensures alone { IsOfOneWord result }
 {
     let (update, size) = (it.update, it.size);
     match it.ea {
@@ -173,7 +175,7 @@ fn update_alone(it: &Updated) -> Short
 /// The form of an instruction that has none of its own, by its operand.
 fn short_by_operand(instruction: &Instr) -> Short
     ensures means { IfSome (meaning result) (λ i. instruction.now ≡ i) }
-    ensures alone { (second : ℕ) → meaning_with second result ≡ None }
+    ensures alone { IsOfOneWord result }
 {
     if let Some(it) = find_taken(instruction) {
         return take_alone(&it);
@@ -190,7 +192,7 @@ fn short_by_operand(instruction: &Instr) -> Short
 /// The form of an instruction, where it has one of its own or changes a register alone.
 fn short_by_family(instruction: &Instr) -> Short
     ensures means { IfSome (meaning result) (λ i. instruction.now ≡ i) }
-    ensures alone { (second : ℕ) → meaning_with second result ≡ None }
+    ensures alone { IsOfOneWord result }
 {
     match instruction {
         Instr::Move(it) => short_move(it),
@@ -203,7 +205,7 @@ fn short_by_family(instruction: &Instr) -> Short
 /// The form of an instruction of one word.
 fn short_alone(instruction: &Instr) -> Short
     ensures means { IfSome (meaning result) (λ i. instruction.now ≡ i) }
-    ensures alone { (second : ℕ) → meaning_with second result ≡ None }
+    ensures alone { IsOfOneWord result }
 {
     match short_by_family(instruction) {
         Short::Other => short_by_operand(instruction),
@@ -214,7 +216,7 @@ fn short_alone(instruction: &Instr) -> Short
 /// The short form of what a first word begins with by itself.
 pub(crate) fn short_of(found: &Decoded) -> Short
     ensures means { IfSome (meaning result) (λ i. found.now ≡ Whole i 1) }
-    ensures alone { (second : ℕ) → meaning_with second result ≡ None }
+    ensures alone { IsOfOneWord result }
 {
     match found {
         Decoded::Whole(instruction, 1) => short_alone(instruction),
@@ -226,7 +228,7 @@ pub(crate) fn short_of(found: &Decoded) -> Short
 #[rattlefmt::skip]
 fn short_pair(second: u16, instruction: &Instr) -> Short
     ensures with { IfSome (meaning_with second result) (λ i. instruction.now ≡ i) }
-    ensures alone { meaning result ≡ None }
+    ensures pair { IsOfTwoWords result }
 {
     match *instruction {
         Instr::Move(Move::Move { size: Size::Long, destination: Ea::Dn(register), source: Ea::Disp(base, d) })
@@ -251,7 +253,7 @@ fn short_pair(second: u16, instruction: &Instr) -> Short
 #[rattlefmt::skip]
 fn copy_near(second: u16, instruction: &Instr) -> Short
     ensures with { IfSome (meaning_with second result) (λ i. instruction.now ≡ i) }
-    ensures alone { meaning result ≡ None }
+    ensures pair { IsOfTwoWords result }
 {
     let Instr::Move(Move::Move { size, destination, source: Ea::Disp(base, d) }) = *instruction else {
         return Short::Other;
@@ -264,11 +266,26 @@ fn copy_near(second: u16, instruction: &Instr) -> Short
     }
 }
 
+/// The form of what reads an immediate that the second word is.
+#[rattlefmt::skip]
+fn take_immediate(second: u16, instruction: &Instr) -> Short
+    ensures with { IfSome (meaning_with second result) (λ i. instruction.now ≡ i) }
+    ensures pair { IsOfTwoWords result }
+{
+    match find_immediate(instruction) {
+        Some(Immediate { taking, size: Size::Byte, value }) if value == u32::from(second) =>
+            Short::TakeImmediate { taking, size: Size::Byte },
+        Some(Immediate { taking, size: Size::Word, value }) if value == u32::from(second) =>
+            Short::TakeImmediate { taking, size: Size::Word },
+        _ => Short::Other,
+    }
+}
+
 /// The form of an instruction that reads, writes or changes an operand which the second word displaces.
 #[rattlefmt::skip]
 fn near_by_operand(second: u16, instruction: &Instr) -> Short
     ensures with { IfSome (meaning_with second result) (λ i. instruction.now ≡ i) }
-    ensures alone { meaning result ≡ None }
+    ensures pair { IsOfTwoWords result }
 {
     match find_taken(instruction) {
         Some(Taken { taking, size, ea: Ea::Disp(base, d) }) if d == second =>
@@ -290,14 +307,52 @@ fn near_by_operand(second: u16, instruction: &Instr) -> Short
 /// The short form of a first word that is this instruction with the second.
 pub(crate) fn short_with(second: u16, instruction: &Instr) -> Short
     ensures with { IfSome (meaning_with second result) (λ i. instruction.now ≡ i) }
-    ensures alone { meaning result ≡ None }
+    ensures pair { IsOfTwoWords result }
 {
     match short_pair(second, instruction) {
         Short::Other => {}
         found => return found,
     }
     match copy_near(second, instruction) {
+        Short::Other => {}
+        found => return found,
+    }
+    match take_immediate(second, instruction) {
         Short::Other => near_by_operand(second, instruction),
         found => found,
+    }
+}
+
+/// The form of an instruction that reads or writes an operand at this absolute address.
+#[rattlefmt::skip]
+fn absolute_by_operand(address: u32, instruction: &Instr) -> Short
+    ensures with { IfSome (meaning_with_long address result) (λ i. instruction.now ≡ i) }
+    ensures triple { IsOfThreeWords result }
+{
+    match find_taken(instruction) {
+        Some(Taken { taking, size, ea: Ea::AbsL(a) }) if a == address => return Short::TakeAbsolute { taking, size },
+        _ => {}
+    }
+    match find_written(instruction) {
+        Some(Written { putting, size, ea: Ea::AbsL(a) }) if a == address => Short::PutAbsolute { putting, size },
+        _ => Short::Other,
+    }
+}
+
+/// The short form of a first word that is this instruction with the long which the second word and the third are.
+#[rattlefmt::skip]
+pub(crate) fn short_with_long(value: u32, instruction: &Instr) -> Short
+    ensures with { IfSome (meaning_with_long value result) (λ i. instruction.now ≡ i) }
+    ensures triple { IsOfThreeWords result }
+{
+    match *instruction {
+        Instr::Move(Move::Lea { register, ea: Ea::AbsL(a) }) if a == value =>
+            return Short::AddressAbsolute { register },
+        _ => {}
+    }
+    match find_immediate(instruction) {
+        Some(Immediate { taking, size: Size::Long, value: found }) if found == value =>
+            Short::TakeImmediate { taking, size: Size::Long },
+        _ => absolute_by_operand(value, instruction),
     }
 }

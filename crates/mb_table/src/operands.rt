@@ -2,7 +2,7 @@
 
 ghost use Rattle.std.specs.Prelude.{◌≡◌, IfSome};
 ghost use Rattle.mb_instr.specs.declared.instruction.Instr.TheVariants as instr;
-ghost use Rattle.mb_table.specs.Forms.{taking_of, putting_of, update_of, change_of};
+ghost use Rattle.mb_table.specs.Forms.{taking_of, immediate_of, putting_of, update_of, change_of};
 
 use crate::forms::{Change, Putting, Taking, Update};
 use mb_instr::{Arith, Ea, Instr, Move, ShiftKind, Size};
@@ -13,6 +13,14 @@ pub(crate) struct Taken {
     pub(crate) taking: Taking,
     pub(crate) size: Size,
     pub(crate) ea: Ea,
+}
+
+/// An instruction that reads an immediate.
+#[derive(Clone, Copy)]
+pub(crate) struct Immediate {
+    pub(crate) taking: Taking,
+    pub(crate) size: Size,
+    pub(crate) value: u32,
 }
 
 /// An instruction that writes to an operand which it does not read.
@@ -64,6 +72,36 @@ pub(crate) fn find_taken(instruction: &Instr) -> Option<Taken>
         Instr::Arith(Arith::Cmpa { register: n, size, ea }) =>
             Some(Taken { taking: Taking::CompareAddress(n), size, ea }),
         Instr::Arith(Arith::Tst { size, ea }) => Some(Taken { taking: Taking::Test, size, ea }),
+        _ => None,
+    }
+}
+
+/// The immediate that an instruction reads.
+#[rattlefmt::skip]
+pub(crate) fn find_immediate(instruction: &Instr) -> Option<Immediate>
+    ensures { IfSome result (λ it. instruction.now ≡ immediate_of it.taking it.size it.value) }
+{
+    match *instruction {
+        Instr::Move(Move::Move { size, destination: Ea::Dn(n), source: Ea::Imm(value) }) =>
+            Some(Immediate { taking: Taking::Move(n), size, value }),
+        Instr::Move(Move::Movea { size, register: n, source: Ea::Imm(value) }) =>
+            Some(Immediate { taking: Taking::MoveAddress(n), size, value }),
+        Instr::Arith(Arith::Addi { size, ea: Ea::Dn(n), immediate: value }) =>
+            Some(Immediate { taking: Taking::Add(n), size, value }),
+        Instr::Arith(Arith::Subi { size, ea: Ea::Dn(n), immediate: value }) =>
+            Some(Immediate { taking: Taking::Subtract(n), size, value }),
+        Instr::Arith(Arith::Andi { size, ea: Ea::Dn(n), immediate: value }) =>
+            Some(Immediate { taking: Taking::And(n), size, value }),
+        Instr::Arith(Arith::Ori { size, ea: Ea::Dn(n), immediate: value }) =>
+            Some(Immediate { taking: Taking::Or(n), size, value }),
+        Instr::Arith(Arith::Cmpi { size, ea: Ea::Dn(n), immediate: value }) =>
+            Some(Immediate { taking: Taking::Compare(n), size, value }),
+        Instr::Arith(Arith::Adda { register: n, size, ea: Ea::Imm(value) }) =>
+            Some(Immediate { taking: Taking::AddAddress(n), size, value }),
+        Instr::Arith(Arith::Suba { register: n, size, ea: Ea::Imm(value) }) =>
+            Some(Immediate { taking: Taking::SubtractAddress(n), size, value }),
+        Instr::Arith(Arith::Cmpa { register: n, size, ea: Ea::Imm(value) }) =>
+            Some(Immediate { taking: Taking::CompareAddress(n), size, value }),
         _ => None,
     }
 }

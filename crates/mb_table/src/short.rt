@@ -3,7 +3,8 @@
 use crate::forms::{Change, Place, Putting, Register, Taking, Update};
 use mb_instr::{Condition, Size};
 
-/// What a first word says by itself, in six bytes: which instruction it is, or which one it is with each second word.
+/// What a first word says by itself, in six bytes: which instruction it is, or which one it is with each second word or
+/// with each second and third.
 ///
 /// What is carried out most often has a form of its own, which says all but the numbers in it; the other forms have
 /// parts that say the operand and what becomes of it.
@@ -154,6 +155,16 @@ pub enum Short {
         size: Size,
         base: u8,
     },
+    /// An immediate is read: a byte or a word is the second word, and a long the second and the third.
+    TakeImmediate {
+        taking: Taking,
+        size: Size,
+    },
+    /// An operand at an absolute address is read, which the second word and the third are.
+    TakeAbsolute {
+        taking: Taking,
+        size: Size,
+    },
     /// An operand in memory is written.
     PutMemory {
         putting: Putting,
@@ -165,6 +176,11 @@ pub enum Short {
         putting: Putting,
         size: Size,
         base: u8,
+    },
+    /// An operand at an absolute address is written, which the second word and the third are.
+    PutAbsolute {
+        putting: Putting,
+        size: Size,
     },
     /// An operand in memory is read, changed and written back.
     UpdateMemory {
@@ -194,6 +210,10 @@ pub enum Short {
     AddressNear {
         register: u8,
         base: u8,
+    },
+    /// `LEA` of an absolute address, which the second word and the third are.
+    AddressAbsolute {
+        register: u8,
     },
     /// `RTS`.
     Return,

@@ -7,7 +7,7 @@ ghost use Rattle.mb_decode.specs.Decodes.{decode_of, IfWhole};
 ghost use Rattle.mb_table.specs.FirstWords.{alone};
 ghost use Rattle.mb_table.specs.Short.{IsShort};
 
-use crate::finding::{short_of, short_with};
+use crate::finding::{short_of, short_with, short_with_long};
 use crate::short::Short;
 use mb_decode::{Decoded, spellings};
 use mb_instr::{FIRST_WORDS, Instr};
@@ -66,5 +66,15 @@ impl Shorts {
     {
         spellings();
         self.forms[usize::from(first)] = short_with(second, instruction);
+    }
+
+    /// A first word that wants more came with these two, and the three are this instruction.
+    pub fn learn_with_long(&mut self, first: u16, second: u16, third: u16, instruction: &Instr)
+        requires means { decode_of (first ∷ second ∷ third ∷ []) ≡ Whole instruction.now 3 }
+        requires valid { IsInstr instruction.now }
+    {
+        spellings();
+        let value = u32::from(second) << 16 | u32::from(third);
+        self.forms[usize::from(first)] = short_with_long(value, instruction);
     }
 }

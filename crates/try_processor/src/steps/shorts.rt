@@ -80,7 +80,7 @@ static ALONE: [u16; 66] = [
 ];
 
 /// First words that have a short form with any second one.
-static WITH_ANOTHER: [u16; 17] = [
+static WITH_ANOTHER: [u16; 21] = [
     0x2429, // MOVE.L (d16,A1),D2
     0x2342, // MOVE.L D2,(d16,A1)
     0x6600, // BNE.W
@@ -98,10 +98,14 @@ static WITH_ANOTHER: [u16; 17] = [
     0x6100, // BSR.W
     0x4E55, // LINK A5
     0x4E57, // LINK A7
+    0x343C, // MOVE.W #second,D2
+    0xD4FC, // ADDA.W #second,A2
+    0x0602, // ADDI.B #second,D2
+    0x0C42, // CMPI.W #second,D2
 ];
 
 /// Instructions of three words, each once and once more with another third word.
-static OF_THREE_WORDS: [[u16; 3]; 10] = [
+static OF_THREE_WORDS: [[u16; 3]; 16] = [
     [0x0682, 0x0000, 0x1001], // ADDI.L #$1001,D2
     [0x0682, 0x0000, 0x1002],
     [0x0C82, 0x8000, 0x0000], // CMPI.L #$80000000,D2
@@ -110,6 +114,12 @@ static OF_THREE_WORDS: [[u16; 3]; 10] = [
     [0x2439, 0x0000, 0x110C],
     [0x23C2, 0x0000, 0x1108], // MOVE.L D2,$1108
     [0x23C2, 0x0000, 0x110C],
+    [0xB5FC, 0x8000, 0x0000], // CMPA.L #$80000000,A2
+    [0xB5FC, 0x8000, 0x0001],
+    [0x42B9, 0x0000, 0x1108], // CLR.L $1108
+    [0x42B9, 0x0000, 0x110C],
+    [0x45F9, 0x0000, 0x1108], // LEA $1108,A2
+    [0x45F9, 0x0000, 0x110C],
     [0x0069, 0x1234, 0x0000], // ORI.W #$1234,(0,A1)
     [0x0069, 0x1234, 0x0002],
 ];
@@ -205,8 +215,8 @@ fn are_found_again(setting: &Setting, bench: &mut Bench) -> bool {
 }
 
 impl Trial for Setting {
-    /// The first step of a first word goes the general way, and the next one of the same words in short; of three words
-    /// the first is decoded, and the next one is found again.
+    /// The first step of a first word goes the general way, and the next one of the same words in short, or, of three
+    /// words, is found again.
     fn passes(&self, bench: &mut Bench) -> bool {
         self.put_operands(&mut bench.port);
         self.put_operands(&mut bench.other);

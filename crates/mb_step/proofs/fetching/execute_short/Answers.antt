@@ -1,4 +1,4 @@
-use Rattle.mb_step.proofs.InShort.{even_apart, valid, valid_with, went_apart}
+use Rattle.mb_step.proofs.InShort.{even_apart, valid, valid_long, valid_with, went_apart}
 use Rattle.mb_step.proofs.fetching.execute_short.Goals as goal
 
 pub perform_short-requires-clause-even : goal.perform_short-requires-clause-even
@@ -10,6 +10,9 @@ perform_short-requires-clause-valid g c = valid c.args.first c.args.short.now c.
 
 pub perform_short-requires-clause-valid_with : goal.perform_short-requires-clause-valid_with
 perform_short-requires-clause-valid_with g c = valid_with c.args.first c.args.short.now c.requires.short
+
+pub perform_short-requires-clause-valid_long : goal.perform_short-requires-clause-valid_long
+perform_short-requires-clause-valid_long g c = valid_long c.args.first c.args.short.now c.requires.short
 
 pub returns-clause-done : goal.returns-clause-done
 returns-clause-done g c =

@@ -1,7 +1,7 @@
 use Rattle.std.proofs.Common.{◌≡◌, ◌∙◌, ◌%◌, length, ap, refl, sym, arith}
 use Rattle.mb_instr.specs.declared.registers.Plain.{Plain}
 use Rattle.mb_model.specs.Status.{space_of}
-use Rattle.mb_step.proofs.InShort.{even_apart, followed_apart, untraced_went, valid, valid_with}
+use Rattle.mb_step.proofs.InShort.{even_apart, followed_apart, untraced_went, valid, valid_long, valid_with}
 use Rattle.mb_step.proofs.Registers.{same_mode, same_space}
 use Rattle.mb_step.proofs.fetching.execute_untraced.Goals as goal
 
@@ -14,6 +14,9 @@ perform_short-requires-clause-valid g c = valid c.args.first c.args.short.now c.
 
 pub perform_short-requires-clause-valid_with : goal.perform_short-requires-clause-valid_with
 perform_short-requires-clause-valid_with g c = valid_with c.args.first c.args.short.now c.requires.short
+
+pub perform_short-requires-clause-valid_long : goal.perform_short-requires-clause-valid_long
+perform_short-requires-clause-valid_long g c = valid_long c.args.first c.args.short.now c.requires.short
 
 pub returns-in-Some-clause-done : goal.returns-in-Some-clause-done
 returns-in-Some-clause-done g c = λ is.

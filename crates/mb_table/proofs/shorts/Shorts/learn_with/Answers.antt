@@ -5,4 +5,4 @@ pub invariant_of-self : goal.invariant_of-self
 invariant_of-self c =
     put c.self.inside.forms.items c.from.result c.args.first c.short_with.result c.from.ensures c.ranges.first.fits c.self.invariant
     (learnt_with c.args.first c.args.second c.args.instruction.now c.short_with.result c.spellings.ensures.all_decoded c.spellings.ensures.read_again
-    c.ranges.first.fits c.ranges.second.fits c.requires.more c.requires.means c.short_with.ensures.with c.short_with.ensures.alone)
+    c.ranges.first.fits c.ranges.second.fits c.requires.more c.requires.means c.short_with.ensures.with c.short_with.ensures.pair)
