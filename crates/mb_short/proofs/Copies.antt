@@ -5,7 +5,7 @@ use Rattle.mb_port.specs.declared.types.Space.{Space}
 use Rattle.mb_instr.specs.declared.size.Size.{Size}
 use Rattle.mb_instr.specs.declared.size.Size.TheVariants.{Word}
 use Rattle.mb_instr.specs.declared.operand.Ea.{Ea}
-use Rattle.mb_instr.specs.declared.operand.Ea.TheVariants.{Disp}
+use Rattle.mb_instr.specs.declared.operand.Ea.TheVariants.{Ind, Disp}
 use Rattle.mb_instr.specs.declared.registers.Plain.{Plain}
 use Rattle.mb_instr.specs.Codes.{IsInstr}
 use Rattle.mb_instr.specs.Operands.{lower}
@@ -20,6 +20,7 @@ use Rattle.def_instructions.specs.Ends.{carried}
 use Rattle.def_instructions.specs.Moves.{move_flags}
 use Rattle.def_instructions.specs.Rows.{row_of}
 use Rattle.mb_table.specs.declared.forms.Place.{Place}
+use Rattle.mb_table.specs.declared.forms.Place.TheVariants as place
 use Rattle.mb_table.specs.Forms.{place_ea, copy_of}
 use Rattle.mb_short.specs.Operands.{place_at}
 use Rattle.mb_short.specs.Taken.{Goes}
@@ -52,5 +53,16 @@ copies_near bus size place m d value space p s t read put =
     two_go bus (copy_of size (place_ea place) (Disp m d)) space p (move_flags size value after) s t
     (copies bus size (place_ea place) (Disp m d) (place_at place size moved) here value p.pc space moved moved after s t
     (near_found bus size m d space moved s) read (place_found bus size place space moved s) written)
+
+pub copies_to_near : {S : Type 0} (bus : Bus S) (size : Size) (n m d value : ℕ) (space : Space) (p : Plain) (s t : S)
+    → run bus (read_operand_of space (address_register p n) (bytes_of size)) s ≡ (Ok value, s)
+    → run bus (write_operand_of space (sum (address_register p m) (sign_extended Word d)) (bytes_of size) value) s ≡ (Ok tt, t)
+    → Goes bus (copy_of size (Disp m d) (Ind n)) 2 space p s false (move_flags size value (past 2 p)) t
+copies_to_near bus size n m d value space p s t read put =
+    let moved = past 2 p in
+    let there = sum (address_register p m) (sign_extended Word d) in
+    two_go bus (copy_of size (Disp m d) (Ind n)) space p (move_flags size value moved) s t
+    (copies bus size (Disp m d) (Ind n) there (address_register p n) value p.pc space moved moved moved s t
+    (place_found bus size (place.At n) space moved s) read (near_found bus size m d space moved s) put)
 
 pub ruleset copying = (has_copied, has_copy)

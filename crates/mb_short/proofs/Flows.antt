@@ -6,7 +6,7 @@ use Rattle.mb_instr.specs.declared.kinds.Branch.{Branch}
 use Rattle.mb_instr.specs.declared.kinds.Condition.{Condition}
 use Rattle.mb_instr.specs.declared.kinds.Condition.TheVariants as condition
 use Rattle.mb_instr.specs.declared.size.Size.TheVariants.{Word}
-use Rattle.mb_instr.specs.declared.operand.Ea.TheVariants.{Disp, AbsL}
+use Rattle.mb_instr.specs.declared.operand.Ea.TheVariants.{Disp, AbsL, PcDisp}
 use Rattle.mb_instr.specs.declared.instruction.Move.TheVariants as move
 use Rattle.mb_instr.specs.Registers.{address_register, with_address_register}
 use Rattle.mb_instr.specs.Sizes.{sign_extended}
@@ -75,4 +75,12 @@ unfolding resolve_of
 absolute_goes bus n at space p s =
     goes bus (instr.Move (move.Lea n (AbsL at))) p.pc space (past 3 p) (with_address_register (past 3 p) n at) false s s refl
 
-pub ruleset flows = (branch_goes, loop_goes, call_goes, return_goes, link_goes, unlink_goes, address_goes, absolute_goes)
+pub counter_goes : {S : Type 0} (bus : Bus S) (n d : ℕ) (space : Space) (p : Plain) (s : S)
+    → Goes bus (instr.Move (move.Lea n (PcDisp d))) 2 space p s false
+    (with_address_register (past 2 p) n (sum ((p.pc + 2) % 2 ^ 32) (sign_extended Word d))) s
+unfolding resolve_of
+counter_goes bus n d space p s =
+    goes bus (instr.Move (move.Lea n (PcDisp d))) p.pc space (past 2 p)
+    (with_address_register (past 2 p) n (sum ((p.pc + 2) % 2 ^ 32) (sign_extended Word d))) false s s refl
+
+pub ruleset flows = (branch_goes, loop_goes, call_goes, return_goes, link_goes, unlink_goes, address_goes, absolute_goes, counter_goes)

@@ -7,3 +7,4 @@ pub mod Immediates
 pub mod Flows
 pub mod Changes
 pub mod Followings
+pub mod Exchanges

@@ -72,9 +72,15 @@ pub(crate) fn changed_by(short: &Short) -> Changed
 {
     match *short {
         Short::Change { register, .. } => Changed::Data(register),
-        Short::AddressNear { register, .. } | Short::AddressAbsolute { register } => Changed::Address(register),
+        Short::AddressNear { register, .. }
+        | Short::AddressFromCounter { register }
+        | Short::AddressAbsolute { register } => Changed::Address(register),
         Short::Return | Short::Call { .. } | Short::CallFar => Changed::Address(7),
-        Short::PutNear { .. } | Short::PutAbsolute { .. } | Short::UpdateNear { .. } => Changed::Nothing,
+        Short::PutNear { .. }
+        | Short::PutAbsolute { .. }
+        | Short::UpdateNear { .. }
+        | Short::CopyToNear { .. }
+        | Short::TestBit { .. } => Changed::Nothing,
         Short::TakeRegister { taking, .. }
         | Short::TakeNear { taking, .. }
         | Short::TakeImmediate { taking, .. }

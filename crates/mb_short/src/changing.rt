@@ -3,10 +3,14 @@
 ghost use Rattle.std.specs.Prelude.{◌≡◌, ◌<◌, false};
 ghost use Rattle.mb_port.specs.Routine.{run};
 ghost use Rattle.mb_instr.specs.Codes.{IsInstr};
-ghost use Rattle.mb_instr.specs.Registers.{data_register};
+ghost use Rattle.mb_instr.specs.declared.size.Size.TheVariants.{Byte};
+ghost use Rattle.mb_instr.specs.Registers.{data_register, with_data_register};
 ghost use Rattle.mb_instr.specs.Sizes.{low_of};
 ghost use Rattle.mb_alu.specs.Shifts.{shift_of};
+ghost use Rattle.def_instructions.specs.Conditions.{is_met};
 ghost use Rattle.def_instructions.specs.Ends.{carried};
+ghost use Rattle.def_instructions.specs.Moves.{condition_byte};
+ghost use Rattle.def_instructions.specs.Operands.{with_low};
 ghost use Rattle.def_instructions.specs.Rows.{row_of};
 ghost use Rattle.def_instructions.specs.Unary.{put_in_register_of, negated, complemented};
 ghost use Rattle.mb_table.specs.Forms.{change_of};
@@ -17,7 +21,8 @@ ghost use Rattle.mb_short.specs.Taken.{Goes};
 use crate::places::pass_one;
 use crate::registers::{ADD, EXCLUSIVE_OR, SUBTRACT, move_to};
 use mb_alu::{LogicKind, logic, shift, sub};
-use mb_instr::{Plain, ShiftKind, Size};
+use mb_instr::{Condition, Plain, ShiftKind, Size};
+use mb_operands::{is_met, with_low};
 use mb_ops_arith::{Operation, Sum, combine_into, combine_registers, put_in_register};
 use mb_port::{Port, Space};
 use mb_table::Change;
@@ -73,6 +78,21 @@ fn complement(size: Size, register: u8, plain: &mut Plain)
     );
 }
 
+/// Scc.
+#[inline(always)]
+fn set(condition: Condition, register: u8, plain: &mut Plain)
+    requires { register < 8 }
+    ensures { plain.new ≡ with_data_register plain.old register
+        (with_low Byte (data_register plain.old register) (condition_byte (is_met condition plain.old.ccr))) }
+{
+    let byte = if is_met(condition, plain.ccr) {
+        0xff
+    } else {
+        0
+    };
+    plain.d[register as usize] = with_low(Size::Byte, plain.d[register as usize], byte);
+}
+
 /// Carries out the row of the instruction. PC is past its word already.
 #[rattlefmt::skip]
 #[inline(always)]
@@ -93,6 +113,7 @@ fn carry_out<P: Port>(change: Change, size: Size, n: u8, at: u32, space: Space, 
         Change::Complement => complement(size, n, plain),
         Change::AddQuick(quick) => combine_into(ADD, size, u32::from(quick), n, plain),
         Change::SubtractQuick(quick) => combine_into(SUBTRACT, size, u32::from(quick), n, plain),
+        Change::Set(condition) => set(condition, n, plain),
         Change::ExclusiveOr(m) => combine_registers(EXCLUSIVE_OR, size, m, n, plain),
         Change::AddExtended(m) => combine_registers(ADD_EXTENDED, size, m, n, plain),
         Change::SubtractExtended(m) => combine_registers(SUBTRACT_EXTENDED, size, m, n, plain),

@@ -11,6 +11,7 @@ mod branches;
 mod changed;
 mod changing;
 mod copying;
+mod exchanging;
 mod following;
 mod performing;
 mod places;

@@ -7,11 +7,12 @@ ghost use Rattle.mb_short.specs.Always.{asks_nothing, is_of_registers_by_parts};
 ghost use Rattle.mb_short.specs.Changed.{changed_of, Differ, Follows};
 ghost use Rattle.mb_short.specs.Taken.{Comes, LongComes, IsDone};
 
-use crate::addresses::{load_absolute, load_near};
+use crate::addresses::{load_absolute, load_from_counter, load_near};
 use crate::branches::{branch, branch_far, turn};
 use crate::changed::changed_by;
 use crate::changing::change_register;
-use crate::copying::copy_near;
+use crate::copying::{copy_near, copy_to_near};
+use crate::exchanging::{exchange_data, test_bit};
 use crate::following::{Follower, follow, values_of};
 use crate::putting::{put_absolute, put_memory, put_near};
 use crate::registers::{perform_between_data, perform_in_address, perform_in_data};
@@ -107,6 +108,15 @@ fn perform_pair<P: Port>(short: &Short, space: Space, plain: &mut Plain, port: &
         Short::PutNear { putting, size, base } => put_near(putting, size, base, word, space, plain, port),
         Short::UpdateNear { update, size, base } => update_near(update, size, base, word, space, plain, port),
         Short::CopyNear { size, base, place } => copy_near(size, base, place, word, space, plain, port),
+        Short::CopyToNear { size, source, base } => copy_to_near(size, source, base, word, space, plain, port),
+        Short::TestBit { register } => {
+            test_bit(register, word, space, plain, port);
+            Some(false)
+        }
+        Short::AddressFromCounter { register } => {
+            load_from_counter(register, word, space, plain, port);
+            Some(false)
+        }
         Short::AddressNear { register, base } => {
             load_near(register, base, word, space, plain, port);
             Some(false)
@@ -145,6 +155,10 @@ fn perform_rarer<P: Port>(short: &Short, space: Space, plain: &mut Plain, port: 
         Short::UpdateMemory { update, size, place } => update_memory(update, size, place, space, plain, port),
         Short::Change { change, size, register } => {
             change_register(change, size, register, space, plain, port);
+            Some(false)
+        }
+        Short::ExchangeData { register, other } => {
+            exchange_data(register, other, space, plain, port);
             Some(false)
         }
         Short::Return => return_from(space, plain, port),

@@ -8,12 +8,14 @@ use Rattle.mb_instr.specs.declared.instruction.Instr.{Instr}
 use Rattle.mb_instr.specs.declared.instruction.Instr.TheVariants as instr
 use Rattle.mb_instr.specs.declared.instruction.Move.TheVariants as move
 use Rattle.mb_instr.specs.declared.instruction.Flow.TheVariants as flow
+use Rattle.mb_instr.specs.declared.instruction.Arith.TheVariants as arithmetic
+use Rattle.mb_instr.specs.declared.kinds.BitKind.TheVariants as bit
 use Rattle.mb_instr.specs.declared.size.Size.{Size}
 use Rattle.mb_instr.specs.declared.kinds.Branch.TheVariants as branch
 use Rattle.mb_instr.specs.declared.kinds.Condition.{Condition}
 use Rattle.mb_instr.specs.declared.kinds.Condition.TheVariants as condition
 use Rattle.mb_instr.specs.declared.size.Size.TheVariants.{Byte, Word, Long}
-use Rattle.mb_instr.specs.declared.operand.Ea.TheVariants.{Dn, Disp, AbsL}
+use Rattle.mb_instr.specs.declared.operand.Ea.TheVariants.{Dn, Ind, Disp, AbsL, PcDisp}
 use Rattle.mb_instr.specs.Operands.{long_words}
 use Rattle.mb_instr.specs.Opcodes.{word_of, IsOpcode}
 use Rattle.mb_instr.specs.Shapes.{further}
@@ -154,6 +156,15 @@ copy_displaced size m (place.Down n) = record { legal = λ d e h k. refl; opcode
 address_displaced : (n m : ℕ) → IsDisplaced (λ d. instr.Move (move.Lea n (Disp m d)))
 address_displaced n m = record { legal = λ d e h k. refl; opcode = λ d e. refl; words = λ d. refl }
 
+copy_to_displaced : (size : Size) (n m : ℕ) → IsDisplaced (λ d. copy_of size (Disp m d) (Ind n))
+copy_to_displaced size n m = record { legal = λ d e h k. refl; opcode = λ d e. refl; words = λ d. refl }
+
+counter_displaced : (n : ℕ) → IsDisplaced (λ d. instr.Move (move.Lea n (PcDisp d)))
+counter_displaced n = record { legal = λ d e h k. refl; opcode = λ d e. refl; words = λ d. refl }
+
+bit_displaced : (n : ℕ) → IsDisplaced (λ d. instr.Arith (arithmetic.BitImm bit.Test (Dn n) d))
+bit_displaced n = record { legal = λ d e h k. refl; opcode = λ d e. refl; words = λ d. refl }
+
 link_displaced : (n : ℕ) → IsDisplaced (λ d. instr.Move (move.LinkW n d))
 link_displaced n = record { legal = λ d e h k. refl; opcode = λ d e. refl; words = λ d. refl }
 
@@ -221,6 +232,15 @@ with_any first second i (short.CopyNear size m place) all again r r' more e h d 
     (e ∙ ap (λ (j : Instr). Whole j 2) h) d k
 with_any first second i (short.AddressNear n m) all again r r' more e h d k =
     any_second (λ d. instr.Move (move.Lea n (Disp m d))) first second (address_displaced n m) all again r r' more
+    (e ∙ ap (λ (j : Instr). Whole j 2) h) d k
+with_any first second i (short.CopyToNear size n m) all again r r' more e h d k =
+    any_second (λ d. copy_of size (Disp m d) (Ind n)) first second (copy_to_displaced size n m) all again r r' more
+    (e ∙ ap (λ (j : Instr). Whole j 2) h) d k
+with_any first second i (short.AddressFromCounter n) all again r r' more e h d k =
+    any_second (λ d. instr.Move (move.Lea n (PcDisp d))) first second (counter_displaced n) all again r r' more
+    (e ∙ ap (λ (j : Instr). Whole j 2) h) d k
+with_any first second i (short.TestBit n) all again r r' more e h d k =
+    any_second (λ d. instr.Arith (arithmetic.BitImm bit.Test (Dn n) d)) first second (bit_displaced n) all again r r' more
     (e ∙ ap (λ (j : Instr). Whole j 2) h) d k
 with_any first second i short.CallFar all again r r' more e h d k =
     any_second (λ d. instr.Flow (flow.Bcc condition.False (branch.Word d))) first second (branch_displaced condition.False) all again r r' more

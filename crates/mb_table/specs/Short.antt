@@ -2,7 +2,7 @@
 use Rattle.std.specs.Prelude.{◌≡◌, ℕ, ◌/◌, ◌<◌, ◌^◌, [], ◌∷◌, Option, Some, None, IfSome, false, true}
 use Rattle.mb_instr.specs.declared.size.Size.TheVariants.{Byte, Word, Long}
 use Rattle.mb_instr.specs.declared.kinds.ShiftKind.TheVariants.{Logical}
-use Rattle.mb_instr.specs.declared.operand.Ea.TheVariants.{Dn, An, Post, Disp, AbsL}
+use Rattle.mb_instr.specs.declared.operand.Ea.TheVariants.{Dn, An, Ind, Post, Disp, AbsL, PcDisp}
 use Rattle.mb_instr.specs.declared.instruction.Instr.{Instr}
 use Rattle.mb_instr.specs.declared.instruction.Instr.TheVariants as instr
 use Rattle.mb_instr.specs.declared.instruction.Move.TheVariants as move
@@ -10,6 +10,8 @@ use Rattle.mb_instr.specs.declared.instruction.Arith.TheVariants as arith
 use Rattle.mb_instr.specs.declared.instruction.Flow.TheVariants as flow
 use Rattle.mb_instr.specs.declared.kinds.Branch.TheVariants as branch
 use Rattle.mb_instr.specs.declared.kinds.Condition.TheVariants as condition
+use Rattle.mb_instr.specs.declared.kinds.BitKind.TheVariants as bit
+use Rattle.mb_instr.specs.declared.kinds.Exchange.TheVariants as exchange
 use Rattle.mb_instr.specs.Operands.{long_words}
 use Rattle.mb_instr.specs.Codes.{IsInstr}
 use Rattle.mb_decode.specs.declared.front.Decoded.TheVariants.{Whole, More}
@@ -46,6 +48,7 @@ meaning (short.Change change size n) = Some (change_of change size n)
 meaning (short.RaiseAddress size n quick) = Some (instr.Arith (arith.Addq quick size (An n)))
 meaning (short.LowerAddress size n quick) = Some (instr.Arith (arith.Subq quick size (An n)))
 meaning (short.Swap n) = Some (instr.Move (move.Swap n))
+meaning (short.ExchangeData n m) = Some (instr.Move (move.Exg n exchange.Data m))
 meaning (short.ExtendWord n) = Some (instr.Arith (arith.ExtL n))
 meaning short.Return = Some (instr.Flow flow.Rts)
 meaning (short.Call d) = Some (instr.Flow (flow.Bcc condition.False (branch.Byte d)))
@@ -64,6 +67,9 @@ meaning_with d (short.TakeImmediate taking Word) = Some (immediate_of taking Wor
 meaning_with d (short.PutNear putting size m) = Some (putting_of putting size (Disp m d))
 meaning_with d (short.UpdateNear update size m) = Some (update_of update size (Disp m d))
 meaning_with d (short.CopyNear size m place) = Some (copy_of size (place_ea place) (Disp m d))
+meaning_with d (short.CopyToNear size n m) = Some (copy_of size (Disp m d) (Ind n))
+meaning_with d (short.TestBit n) = Some (instr.Arith (arith.BitImm bit.Test (Dn n) d))
+meaning_with d (short.AddressFromCounter n) = Some (instr.Move (move.Lea n (PcDisp d)))
 meaning_with d (short.AddressNear n m) = Some (instr.Move (move.Lea n (Disp m d)))
 meaning_with d short.CallFar = Some (instr.Flow (flow.Bcc condition.False (branch.Word d)))
 meaning_with d (short.Link n) = Some (instr.Move (move.LinkW n d))

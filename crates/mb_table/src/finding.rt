@@ -7,14 +7,16 @@ ghost use Rattle.mb_table.specs.Forms.{taking_of, putting_of, update_of};
 ghost use Rattle.mb_table.specs.Short.{meaning, meaning_with, meaning_with_long};
 ghost use Rattle.mb_table.specs.Short.{IsOfOneWord, IsOfTwoWords, IsOfThreeWords};
 
-use crate::forms::{Place, Register};
+use crate::forms::{Change, Place, Register};
 use crate::operands::{
     Changed, Immediate, Taken, Updated, Written, find_changed, find_immediate, find_taken,
     find_updated, find_written,
 };
 use crate::short::Short;
 use mb_decode::Decoded;
-use mb_instr::{Arith, Branch, Condition, Ea, Flow, Instr, Move, ShiftKind, Size};
+use mb_instr::{
+    Arith, BitKind, Branch, Condition, Ea, Exchange, Flow, Instr, Move, ShiftKind, Size,
+};
 
 /// The form of what moves, where it has one of its own.
 #[rattlefmt::skip]
@@ -31,6 +33,9 @@ fn short_move(instruction: &Move) -> Short
         Move::Move { size: Size::Long, destination: Ea::Post(base), source: Ea::Dn(register) } =>
             Short::StoreLongUp { register, base },
         Move::Swap { register } => Short::Swap { register },
+        Move::Exg { x: register, kind: Exchange::Data, y: other } => Short::ExchangeData { register, other },
+        Move::Scc { condition, ea: Ea::Dn(register) } =>
+            Short::Change { change: Change::Set(condition), size: Size::Byte, register },
         Move::Unlk { register } => Short::Unlink { register },
         _ => Short::Other,
     }
@@ -237,6 +242,11 @@ fn short_pair(second: u16, instruction: &Instr) -> Short
             if d == second => Short::StoreLong { register, base },
         Instr::Move(Move::Lea { register, ea: Ea::Disp(base, d) })
             if d == second => Short::AddressNear { register, base },
+        Instr::Move(Move::Lea { register, ea: Ea::PcDisp(d) }) if d == second => Short::AddressFromCounter { register },
+        Instr::Move(Move::Move { size, destination: Ea::Disp(base, d), source: Ea::Ind(source) })
+            if d == second => Short::CopyToNear { size, source, base },
+        Instr::Arith(Arith::BitImm { kind: BitKind::Test, ea: Ea::Dn(register), word })
+            if word == second => Short::TestBit { register },
         Instr::Move(Move::LinkW { register, displacement })
             if displacement == second => Short::Link { register },
         Instr::Flow(Flow::Bcc { condition: Condition::False, displacement: Branch::Word(d) })

@@ -1,5 +1,7 @@
 //! Parts of short forms: operands, and what becomes of them.
 
+use mb_instr::Condition;
+
 /// An operand in memory that an address register names without a further word.
 #[derive(Clone, Copy)]
 pub enum Place {
@@ -59,7 +61,7 @@ pub enum Putting {
     Zero,
 }
 
-/// How a data register changes by itself, by a number in the first word, or by another data register.
+/// How a data register changes by itself, by a number or a condition in the first word, or by another data register.
 #[derive(Clone, Copy)]
 pub enum Change {
     /// `CLR`.
@@ -72,6 +74,8 @@ pub enum Change {
     AddQuick(u8),
     /// `SUBQ`.
     SubtractQuick(u8),
+    /// `Scc`.
+    Set(Condition),
     /// `EOR` of that data register.
     ExclusiveOr(u8),
     /// `ADDX` of that data register.

@@ -200,16 +200,35 @@ pub enum Short {
         base: u8,
         place: Place,
     },
+    /// An operand `(An)` is moved to one `(d16,An)`; the second word is the displacement.
+    CopyToNear {
+        size: Size,
+        source: u8,
+        base: u8,
+    },
+    /// `BTST #number,Dn`; the second word is the number.
+    TestBit {
+        register: u8,
+    },
     /// A data register changes.
     Change {
         change: Change,
         size: Size,
         register: u8,
     },
+    /// `EXG Dm,Dn`.
+    ExchangeData {
+        register: u8,
+        other: u8,
+    },
     /// `LEA (d16,An),Am`; the second word is the displacement.
     AddressNear {
         register: u8,
         base: u8,
+    },
+    /// `LEA (d16,PC),An`; the second word is the displacement.
+    AddressFromCounter {
+        register: u8,
     },
     /// `LEA` of an absolute address, which the second word and the third are.
     AddressAbsolute {

@@ -10,7 +10,7 @@ use try_vector::VectorPort;
 const HOLE: u32 = 0x1109;
 
 /// Instructions of one word that have a short form, a few of each kind.
-static ALONE: [u16; 66] = [
+static ALONE: [u16; 68] = [
     0x70F9, // MOVEQ #-7,D0
     0x2401, // MOVE.L D1,D2
     0xD481, // ADD.L D1,D2
@@ -73,6 +73,8 @@ static ALONE: [u16; 66] = [
     0xE682, // ASR.L #3,D2
     0xE75A, // ROL.W #3,D2
     0xE69A, // ROR.L #3,D2
+    0xC342, // EXG D1,D2
+    0x56C2, // SNE D2
     0x4E75, // RTS
     0x6106, // BSR.B
     0x4E59, // UNLK A1
@@ -80,7 +82,7 @@ static ALONE: [u16; 66] = [
 ];
 
 /// First words that have a short form with any second one.
-static WITH_ANOTHER: [u16; 21] = [
+static WITH_ANOTHER: [u16; 24] = [
     0x2429, // MOVE.L (d16,A1),D2
     0x2342, // MOVE.L D2,(d16,A1)
     0x6600, // BNE.W
@@ -102,6 +104,9 @@ static WITH_ANOTHER: [u16; 21] = [
     0xD4FC, // ADDA.W #second,A2
     0x0602, // ADDI.B #second,D2
     0x0C42, // CMPI.W #second,D2
+    0x45FA, // LEA (d16,PC),A2
+    0x2351, // MOVE.L (A1),(d16,A1)
+    0x0802, // BTST #second,D2
 ];
 
 /// Instructions of three words, each once and once more with another third word.
