@@ -3,9 +3,11 @@ use Rattle.std.specs.Prelude.{All}
 use Rattle.std.proofs.Common.{◌≡◌, ◌∙◌, ℕ, ◌+◌, ◌-◌, ◌*◌, ◌%◌, ◌^◌, ◌<◌, List, [], ◌∷◌, ◌++◌, length, get_or, length-append, ap, sym, zero-mul, arith}
 use Rattle.mb_instr.specs.declared.registers.Plain.{Plain}
 use Rattle.def_runs.specs.Marks.{numbers_of, sum_with_all, spelled, with_spelled, trail, HasNumbers}
+use Rattle.std.proofs.Math.Nat.{mul_assoc}
+use Rattle.std.proofs.lemmas.Nat.{mul-mod_second, pow-add}
 use Rattle.def_runs.proofs.Spellings.{sum-spells, numbers-append, trails-by_spelling}
 use Rattle.def_runs.specs.Native.{NativeState, with_retired}
-use Rattle.mb_board.specs.Spelling.{Begins, Spell}
+use Rattle.mb_board.specs.Spelling.{gathered, step_places, Begins, Spell}
 
 eight : (t a b c d e f g h : ℕ) → t < 2 ^ 64
     → ((t * 852891037441 % 2 ^ 64 + a * 27512614111 % 2 ^ 64) % 2 ^ 64
@@ -108,5 +110,29 @@ begun_back p native s trail b h =
     let less : s < 2 ^ 64 = let e = h.remainder in omega (arith, e) in
     back native.trail s trail b.small less
     (b.entered ∙ sym (with-remainder native.trail (spelled (numbers_of p))) ∙ ap (λ (x : ℕ). with_spelled native.trail x) (sym h.remainder))
+
+-- ---- the ends of steps by themselves
+
+moved : (x ends end : ℕ) → (x * 17799023633837314945 + (ends * 17799023633837314945 % 2 ^ 64 + end) % 2 ^ 64 * (31 ^ 18 + 1)) % 2 ^ 64
+    ≡ with_spelled (with_spelled ((x + ends * (31 ^ 18 + 1)) % 2 ^ 64) end) end
+moved x ends end = omega arith
+
+-- the trail with one more end
+pub gathered_on : (begun steps ends end : ℕ) → gathered begun (steps + 1) ((ends * 17799023633837314945 % 2 ^ 64 + end) % 2 ^ 64)
+    ≡ with_spelled (with_spelled (gathered begun steps ends) end) end
+gathered_on begun steps ends end =
+    let power : begun * step_places ^ (steps + 1) ≡ begun * step_places ^ steps * 17799023633837314945 =
+    ap (λ (x : ℕ). begun * x) (pow-add step_places steps 1) ∙ sym (mul_assoc begun (step_places ^ steps) 17799023633837314945) in
+    ap (λ (x : ℕ). (x + (ends * 17799023633837314945 % 2 ^ 64 + end) % 2 ^ 64 * (31 ^ 18 + 1)) % 2 ^ 64) power ∙ moved (begun * step_places ^ steps) ends end
+
+pub gathered_none : (begun : ℕ) → begun < 2 ^ 64 → gathered begun 0 0 ≡ begun
+gathered_none begun less = omega (arith, less)
+
+pub gathers : (begun power ends : ℕ) → (begun * (power % 2 ^ 64) % 2 ^ 64 + ends * 12439396676277002690 % 2 ^ 64) % 2 ^ 64
+    ≡ (begun * power + ends * (31 ^ 18 + 1)) % 2 ^ 64
+gathers begun power ends =
+    let e = mul-mod_second begun power (2 ^ 64) in omega (arith, e)
+
+pub ruleset sums = (gathers)
 
 pub ruleset spellings = (eight-at_once)

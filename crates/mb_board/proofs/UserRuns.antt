@@ -16,7 +16,7 @@ use Rattle.def_runs.specs.declared.RunEnd.{RunEnd}
 use Rattle.def_runs.specs.declared.RunEnd.TheVariants.{Counted}
 use Rattle.def_runs.specs.Native.{NativeState, Ran, user_step, user_run, ran_by, about_to_run, ended_by, goes_on, with_retired, with_step, EndsBy}
 use Rattle.mb_board.specs.Fits.{Continues, IsFit, FitsAlong}
-use Rattle.mb_board.specs.Spelling.{Begins, Leads}
+use Rattle.mb_board.specs.Spelling.{gathered, Begins, Leads}
 use Rattle.def_runs.proofs.RunEnds.{run-none, run-on, run-off, goes-on, runs-end_by_cause}
 
 abbrev pub ran_of : RunEnd → Machine → NativeState → Plain → Ran
@@ -205,6 +205,24 @@ leads_on limit left from m after f native trail behind some within step on begin
           (went_ran f m after l.counted step on) l.begins.fit);
     }
 
+-- with the ends of the steps by themselves
+pub led_nowhere : (limit : ℕ) (m : Machine) (ends : ℕ) (native : NativeState) (begun steps : ℕ)
+    → Begins (plain_of m.cpu.regs) native (gathered begun steps ends)
+    → Leads limit (limit - limit) m m native (gathered begun (steps + (limit - limit)) ends)
+led_nowhere limit m ends native begun steps begins =
+    subst (λ (n : ℕ). Leads limit (limit - limit) m m native (gathered begun n ends)) (let e : steps ≡ steps + (limit - limit) = omega arith in e)
+    (leads_nowhere limit m native (gathered begun steps ends) begins)
+
+pub led_on : (limit left taken more : ℕ) (from m after : Machine) (f : Finish) (native : NativeState) (begun ends behind : ℕ) → 0 < left → left ≤ limit
+    → more ≡ taken + 1 → (f, after) ≡ user_step m → goes_on (ended_by f after) ≡ true
+    → ((counted : NativeState) → Begins (plain_of m.cpu.regs) counted (gathered begun taken ends)
+    → Begins (plain_of after.cpu.regs) (with_retired (plain_of m.cpu.regs) (plain_of after.cpu.regs) counted) (gathered begun (taken + 1) behind))
+    → Leads limit (limit - left) from m native (gathered begun taken ends)
+    → Leads limit (limit - (left - 1)) from after native (gathered begun more behind)
+led_on limit left taken more from m after f native begun ends behind some within one step on begins l =
+    subst (λ (n : ℕ). Leads limit (limit - (left - 1)) from after native (gathered begun n behind)) (sym one)
+    (leads_on limit left from m after f native (gathered begun taken ends) (gathered begun (taken + 1) behind) some within step on begins l)
+
 -- some more
 pub leads_behind : (limit left rest : ℕ) (from m after : Machine) (native : NativeState) (trail behind : ℕ) → left ≤ limit → rest ≤ left
     → Leads limit (limit - left) from m native trail
@@ -223,6 +241,17 @@ leads_behind limit left rest from m after native trail behind within fewer l lat
           continues_on n k (n - (limit - rest)) _ r _ (l.continues n less)
           (subst (λ (i : ℕ). Continues k r i (about_to_run after s.counted (plain_of after.cpu.regs))) j (s.continues k (omega arith)));
     }
+
+pub led_behind : (limit left rest : ℕ) (from m after : Machine) (native : NativeState) (begun ends behind : ℕ) → left ≤ limit → rest ≤ left
+    → Leads limit (limit - left) from m native (gathered begun (limit - left) ends)
+    → ((counted : NativeState) (start steps : ℕ) → Begins (plain_of m.cpu.regs) counted (gathered start steps ends)
+    → Leads left (left - rest) m after counted (gathered start (steps + (left - rest)) behind))
+    → Leads limit (limit - rest) from after native (gathered begun (limit - rest) behind)
+led_behind limit left rest from m after native begun ends behind within fewer l later =
+    let steps : (limit - left) + (left - rest) ≡ limit - rest = omega arith in
+    subst (λ (n : ℕ). Leads limit (limit - rest) from after native (gathered begun n behind)) steps
+    (leads_behind limit left rest from m after native (gathered begun (limit - left) ends) (gathered begun ((limit - left) + (left - rest)) behind)
+    within fewer l (λ counted begins. later counted begun (limit - left) begins))
 
 -- The next step is the last, or the run does not go on behind it.
 abbrev pub IsLast : (left : ℕ) (f : Finish) (after : Machine) → Type 0

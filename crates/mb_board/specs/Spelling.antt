@@ -30,6 +30,15 @@ abbrev pub IsRetired : (beginning end : ℕ) (native after : NativeState) → Ty
 IsRetired beginning end native after =
     (p q : Plain) → Spell p beginning → Spell q end → after ≡ with_retired p q native
 
+-- what a trail is multiplied by for a step's two spellings, modulo 2^64
+abbrev pub step_places : ℕ
+step_places = 31 ^ 36 % 2 ^ 64
+
+-- The trail behind so many steps, which began with this one. What their ends spell is summed by itself, in the same
+-- places.
+abbrev pub gathered : (begun steps ends : ℕ) → ℕ
+gathered begun steps ends = (begun * step_places ^ steps + ends * (31 ^ 18 + 1)) % 2 ^ 64
+
 -- Registers, at which a step begins, have come to the trail of what is counted before it, which became this.
 pub record Begins (p : Plain) (native : NativeState) (trail : ℕ) : Type 0 where
   pub numbers : HasNumbers p

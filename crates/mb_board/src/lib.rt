@@ -19,6 +19,7 @@ mod receiving;
 mod running;
 mod spelling;
 mod states;
+mod tlb_bus;
 mod translating;
 
 pub use bare::{before_entry, before_tick};

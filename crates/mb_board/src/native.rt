@@ -1,15 +1,18 @@
 //! What a board counts of its runs in user mode.
 
-ghost use Rattle.std.specs.Prelude.{◌≡◌, ◌+◌, ◌^◌, ◌<◌};
+ghost use Rattle.std.specs.Prelude.{◌≡◌, ℕ, ◌+◌, ◌^◌, ◌<◌};
 ghost use Rattle.mb_instr.specs.declared.registers.Plain.{Plain};
 ghost use Rattle.def_runs.specs.Marks.{with_spelled};
 ghost use Rattle.def_runs.specs.Native.{NativeState, nothing_counted, with_exception, with_retired};
-ghost use Rattle.mb_board.specs.Spelling.{Begins, IsRetired, Spell};
+ghost use Rattle.mb_board.specs.Spelling.{gathered, Begins, IsRetired, Spell};
 
 use std::marker::Model;
 
 /// 31 to the 18, modulo 2^64: a trail moves up by so much for the eighteen numbers of registers.
 const EIGHTEEN_PLACES: u64 = 0xACA1_9D5E_CDAA_61C1;
+
+/// 31 to the 36, modulo 2^64: a trail moves up by so much for a step.
+const STEP_PLACES: u64 = 0xF702_D5B1_13A7_D381;
 
 /// What eighteen places are to be multiplied by to become 1.
 const EIGHTEEN_PLACES_BACK: u64 = 0xA148_4A23_F44C_AE41;
@@ -40,14 +43,25 @@ fn with_spelled(trail: u64, spelling: u64) -> u64
     trail.wrapping_mul(EIGHTEEN_PLACES).wrapping_add(spelling)
 }
 
-/// The trail behind a step that ends with registers that spell this, where that before it has those at its beginning:
-/// then it has those at its end, at which the next step begins.
+/// What the ends of steps spell, summed in the places of the trail, with one more end. Where the trail before it has
+/// the registers at the step's beginning, that behind it has those at its end, at which the next step begins.
 #[inline(always)]
-pub(crate) fn entered(trail: u64, end: u64) -> u64
-    ensures { (p q : Plain) → (native : NativeState) → Begins p native trail → Spell q end
-        → Begins q (with_retired p q native) result }
+pub(crate) fn with_end(ends: u64, end: u64) -> u64
+    ensures { (p q : Plain) → (native : NativeState) → (begun steps : ℕ) → Begins p native (gathered begun steps ends)
+        → Spell q end → Begins q (with_retired p q native) (gathered begun (steps + 1) result) }
 {
-    with_spelled(with_spelled(trail, end), end)
+    ends.wrapping_mul(STEP_PLACES).wrapping_add(end)
+}
+
+/// The trail behind so many steps, which began with this one, by what their ends spell.
+#[inline(always)]
+#[tactic(auto, using(crate::proofs::Spellings::sums))]
+pub(crate) fn gathered(begun: u64, steps: u32, ends: u64) -> u64
+    ensures { result ≡ gathered begun steps ends }
+{
+    begun
+        .wrapping_mul(STEP_PLACES.wrapping_pow(steps))
+        .wrapping_add(ends.wrapping_mul(EIGHTEEN_PLACES + 1))
 }
 
 impl Native {
@@ -107,8 +121,10 @@ impl Native {
     #[inline(always)]
     pub(crate) fn retire_all(&mut self, steps: u32, begun: u64, beginning: u64)
         requires { self.old.retired + steps < 2 ^ 64 }
-        ensures { (p : Plain) → (after : NativeState) → Begins p after begun → Spell p beginning
-            → after.retired ≡ self.old.retired + steps → after.exceptions ≡ self.old.exceptions → self.new ≡ after }
+        ensures retired { self.new.retired ≡ self.old.retired + steps }
+        ensures exceptions { self.new.exceptions ≡ self.old.exceptions }
+        ensures trail { (p : Plain) → (after : NativeState) → Begins p after begun → Spell p beginning
+            → self.new.trail ≡ after.trail }
     {
         self.retired += u64::from(steps);
         self.trail = begun

@@ -1,25 +1,27 @@
 //! Runs in user mode, for a monitor.
 
-ghost use Rattle.std.specs.Prelude.{◌≡◌, ◌+◌, ◌-◌, ◌^◌, ◌<◌, ◌≤◌, length, true, false};
+ghost use Rattle.std.specs.Prelude.{◌≡◌, ℕ, ◌+◌, ◌-◌, ◌^◌, ◌<◌, ◌≤◌, length, true, false};
 ghost use Rattle.mb_instr.specs.Registers.{is_supervisor, plain_of};
+ghost use Rattle.mb_short.specs.Changed.{Follows};
 ghost use Rattle.mb_model.specs.Status.{space_of};
 ghost use Rattle.def_runs.specs.Native.{EndsBy, NativeState, about_to_run, ended_by, goes_on, user_run, user_step};
 ghost use Rattle.def_runs.specs.Native.{with_retired, with_step};
 ghost use Rattle.mb_board.specs.Calm.{IsCalm};
 ghost use Rattle.mb_board.specs.Fits.{FitsAlong};
-ghost use Rattle.mb_board.specs.Spelling.{Begins, Leads, Spell, without_flow};
+ghost use Rattle.mb_board.specs.Spelling.{gathered, Begins, Leads, Spell, without_flow};
 ghost use Rattle.mb_board.specs.State.{ran_to, run_from};
 
 use crate::board::{Board, Core, ForMonitor};
 use crate::following::Digits;
-use crate::native::{Native, entered};
+use crate::native::{Native, gathered, with_end};
 use crate::spelling::spelling;
+use crate::tlb_bus::TlbBus;
 use def_processor::Finish;
 use def_runs::RunEnd;
 use mb_instr::Plain;
 use mb_model::RunState;
 use mb_port::Space;
-use mb_step::Follower;
+use mb_step::{Follower, step_at_once};
 
 impl Core {
     /// How a run in user mode ends with a step that ended so, or that it goes on.
@@ -61,57 +63,80 @@ impl Core {
         }
     }
 
-    /// The trail goes on with the registers that a step has left, at which the next one begins, and so do the digits.
+    /// A step has left these registers, at which the next one begins: they are an end more, and the digits are theirs.
     #[inline(always)]
-    fn enter(&self, digits: &mut Digits, trail: &mut u64)
-        ensures trail { (p : Plain) → (native : NativeState) → Begins p native trail.old
-            → Begins (plain_of self.now.cpu.regs) (with_retired p (plain_of self.now.cpu.regs) native) trail.new }
+    fn enter(&self, digits: &mut Digits, ends: &mut u64)
+        ensures ends { (p : Plain) → (native : NativeState) → (begun steps : ℕ)
+            → Begins p native (gathered begun steps ends.old)
+            → Begins (plain_of self.now.cpu.regs) (with_retired p (plain_of self.now.cpu.regs) native)
+            (gathered begun (steps + 1) ends.new) }
         ensures digits { digits.new.sum ≡ without_flow (plain_of self.now.cpu.regs) }
     {
         digits.all(self.cpu.plain());
-        *trail = entered(*trail, digits.spelling(self.cpu.plain()));
+        *ends = with_end(*ends, digits.spelling(self.cpu.plain()));
+    }
+
+    /// What `step_at_once` does, where the bus finds its places by the micro-TLB. Any other step is left as it was.
+    #[inline(always)]
+    fn step_by_tlb<F: Follower>(&mut self, space: Space, follower: &mut F) -> bool
+        requires calm { IsCalm self.old }
+        requires space { space ≡ space_of self.old.cpu }
+        ensures means { result ≡ true → (Finish.Went, self.new) ≡ user_step self.old }
+        ensures follows { Follows F.follows follower.old (plain_of self.old.cpu.regs)
+            → Follows F.follows follower.new (plain_of self.new.cpu.regs) }
+        ensures undone { result ≡ false → self.new ≡ self.old }
+        ensures calm { IsCalm self.new }
+        ensures space { space_of self.new.cpu ≡ space_of self.old.cpu }
+        ensures ram { length self.new.world.ram ≡ length self.old.world.ram }
+    {
+        let mut bus = TlbBus { bus: &mut self.bus };
+        step_at_once::<_, _, ForMonitor>(&self.decoder, space, &mut self.cpu, &mut bus, follower)
     }
 
     /// One more step of a run of a calm machine in user mode, where its instruction is carried out at once: then the
-    /// answer is true, and the trail has its registers. Else nothing has changed.
+    /// answer is true, and its registers are an end more. Else nothing has changed.
     #[inline(always)]
-    fn run_on_at_once(&mut self, digits: &mut Digits, trail: &mut u64) -> bool
+    fn run_on_at_once(&mut self, digits: &mut Digits, ends: &mut u64) -> bool
         requires calm { IsCalm self.old }
         requires space { Space.User ≡ space_of self.old.cpu }
         requires digits { digits.old.sum ≡ without_flow (plain_of self.old.cpu.regs) }
         ensures means { result ≡ true → (Finish.Went, self.new) ≡ user_step self.old }
-        ensures trail { result ≡ true → (native : NativeState) → Begins (plain_of self.old.cpu.regs) native trail.old
+        ensures ends { result ≡ true → (native : NativeState) → (begun steps : ℕ)
+            → Begins (plain_of self.old.cpu.regs) native (gathered begun steps ends.old)
             → Begins (plain_of self.new.cpu.regs)
-            (with_retired (plain_of self.old.cpu.regs) (plain_of self.new.cpu.regs) native) trail.new }
+            (with_retired (plain_of self.old.cpu.regs) (plain_of self.new.cpu.regs) native)
+            (gathered begun (steps + 1) ends.new) }
         ensures undone { result ≡ false → self.new ≡ self.old }
-        ensures same { result ≡ false → trail.new ≡ trail.old }
+        ensures same { result ≡ false → ends.new ≡ ends.old }
         ensures calm { IsCalm self.new }
         ensures space { space_of self.new.cpu ≡ space_of self.old.cpu }
         ensures digits { digits.new.sum ≡ without_flow (plain_of self.new.cpu.regs) }
         ensures ram { length self.new.world.ram ≡ length self.old.world.ram }
     {
-        if !self.step_at_once::<_, ForMonitor>(Space::User, digits) {
+        if !self.step_by_tlb(Space::User, digits) {
             return false;
         }
-        *trail = entered(*trail, digits.spelling(self.cpu.plain()));
+        *ends = with_end(*ends, digits.spelling(self.cpu.plain()));
         true
     }
 
     /// Takes calm steps of a run in user mode that are carried out at once, at most so many. Gives how many are left.
     #[inline(always)]
-    fn run_at_once_for(&mut self, limit: u32, digits: &mut Digits, trail: &mut u64) -> u32
+    fn run_at_once_for(&mut self, limit: u32, digits: &mut Digits, ends: &mut u64) -> u32
         requires calm { IsCalm self.old }
         requires space { Space.User ≡ space_of self.old.cpu }
         requires digits { digits.old.sum ≡ without_flow (plain_of self.old.cpu.regs) }
         ensures within { result ≤ limit }
-        ensures means { (native : NativeState) → Begins (plain_of self.old.cpu.regs) native trail.old
-            → Leads limit (limit - result) self.old self.new native trail.new }
+        ensures means { (native : NativeState) → (begun steps : ℕ)
+            → Begins (plain_of self.old.cpu.regs) native (gathered begun steps ends.old)
+            → Leads limit (limit - result) self.old self.new native
+            (gathered begun (steps + (limit - result)) ends.new) }
         ensures digits { digits.new.sum ≡ without_flow (plain_of self.new.cpu.regs) }
         ensures ram { length self.new.world.ram ≡ length self.old.world.ram }
     {
         let mut left = limit;
         while left > 0 {
-            if !self.run_on_at_once(digits, trail) {
+            if !self.run_on_at_once(digits, ends) {
                 break;
             }
             left -= 1;
@@ -122,11 +147,13 @@ impl Core {
     /// Takes steps of a run in user mode that are carried out at once, at most so many: none where the machine is not
     /// calm. Gives how many are left.
     #[inline(always)]
-    fn run_calmly(&mut self, limit: u32, digits: &mut Digits, trail: &mut u64) -> u32
+    fn run_calmly(&mut self, limit: u32, digits: &mut Digits, ends: &mut u64) -> u32
         requires digits { digits.old.sum ≡ without_flow (plain_of self.old.cpu.regs) }
         ensures within { result ≤ limit }
-        ensures means { (native : NativeState) → Begins (plain_of self.old.cpu.regs) native trail.old
-            → Leads limit (limit - result) self.old self.new native trail.new }
+        ensures means { (native : NativeState) → (begun steps : ℕ)
+            → Begins (plain_of self.old.cpu.regs) native (gathered begun steps ends.old)
+            → Leads limit (limit - result) self.old self.new native
+            (gathered begun (steps + (limit - result)) ends.new) }
         ensures digits { digits.new.sum ≡ without_flow (plain_of self.new.cpu.regs) }
         ensures ram { length self.new.world.ram ≡ length self.old.world.ram }
     {
@@ -136,7 +163,7 @@ impl Core {
         let Space::User = self.cpu.space() else {
             return limit;
         };
-        self.run_at_once_for(limit, digits, trail)
+        self.run_at_once_for(limit, digits, ends)
     }
 
     /// One more step of a run in user mode, by no short form. The registers at its beginning are remembered.
@@ -167,19 +194,21 @@ impl Core {
         }
         let spelled = spelling(self.cpu.plain());
         let mut digits = Digits::of(spelled, self.cpu.plain());
-        let mut trail = native.begun(spelled);
+        let begun = native.begun(spelled);
+        let mut ends = 0;
         let mut left = limit - 1;
         loop {
-            left = self.run_calmly(left, &mut digits, &mut trail);
+            left = self.run_calmly(left, &mut digits, &mut ends);
             let finish = self.run_on(before);
             if left == 0 || !self.goes_on(finish) {
                 let beginning = digits.spelling(before);
-                native.retire_all(limit - 1 - left, trail, beginning);
+                let steps = limit - 1 - left;
+                native.retire_all(steps, gathered(begun, steps, ends), beginning);
                 self.count(finish, before, beginning, native);
                 return self.ended_by(finish);
             }
             left -= 1;
-            self.enter(&mut digits, &mut trail);
+            self.enter(&mut digits, &mut ends);
         }
     }
 }

@@ -1,7 +1,7 @@
-use Rattle.std.proofs.Common.{◌∙◌, refl, sym, ap, arith}
+use Rattle.std.proofs.Common.{◌∙◌, ◌+◌, ◌-◌, refl, sym, ap, arith}
 use Rattle.def_machine.specs.Machine.{takes_steps}
 use Rattle.def_processor.specs.declared.Finish.TheVariants.{Went}
-use Rattle.mb_board.proofs.UserRuns.{leads_nowhere, leads_on, went_on}
+use Rattle.mb_board.proofs.UserRuns.{led_nowhere, led_on, went_on}
 use Rattle.mb_board.proofs.board.Core.run_at_once_for.Goals as goal
 
 pub loop-left-init : goal.loop-left-init
@@ -10,7 +10,7 @@ loop-left-init c = record {
   space = c.requires.space;
   digits = c.requires.digits;
   within = (omega arith);
-  leads = λ native begins. leads_nowhere c.args.limit c.args.self.now native c.args.trail.now begins;
+  leads = led_nowhere c.args.limit c.args.self.now c.args.ends.now;
   ram = refl;
 }
 
@@ -25,9 +25,10 @@ loop-left-preserved c =
       space = held.space ∙ sym step.space;
       digits = step.digits;
       within = (omega arith);
-      leads = λ native begins. leads_on c.args.limit c.loop-left.left c.args.self.now c.loop-left.self after Went native c.loop-left.trail
-          c.run_on_at_once.new.trail (omega arith) held.within (step.means went) (went_on after (ap takes_steps step.calm.running)) (step.trail went)
-          (held.leads native begins);
+      leads = λ native begun steps begins. let taken = steps + (c.args.limit - c.loop-left.left) in
+          led_on c.args.limit c.loop-left.left taken (steps + (c.args.limit - (c.loop-left.left - 1))) c.args.self.now c.loop-left.self after Went native
+          begun c.loop-left.ends c.run_on_at_once.new.ends (omega arith) held.within (omega arith) (step.means went)
+          (went_on after (ap takes_steps step.calm.running)) (λ counted. step.ends went counted begun taken) (held.leads native begun steps begins);
       ram = step.ram ∙ held.ram;
     }
 

@@ -1,10 +1,10 @@
-use Rattle.std.proofs.Common.{◌≡◌, ◌≤◌, ◌-◌, length}
+use Rattle.std.proofs.Common.{◌≡◌, ◌≤◌, ◌+◌, ◌-◌, ℕ, length}
 use Rattle.mb_port.specs.declared.types.Space.TheVariants as space
 use Rattle.mb_instr.specs.Registers.{plain_of}
 use Rattle.mb_model.specs.Status.{space_of}
 use Rattle.def_runs.specs.Native.{NativeState}
 use Rattle.mb_board.specs.Calm.{IsCalm}
-use Rattle.mb_board.specs.Spelling.{Begins, Leads, without_flow}
+use Rattle.mb_board.specs.Spelling.{gathered, Begins, Leads, without_flow}
 use Rattle.mb_board.proofs.board.Core.run_at_once_for.Given as goal
 
 abbrev pub invariant-loop-left : goal.invariant-loop-left
@@ -13,8 +13,8 @@ invariant-loop-left l = record {
   space : space.User ≡ space_of l.self.cpu;
   digits : l.digits.sum ≡ without_flow (plain_of l.self.cpu.regs);
   within : l.left ≤ l.limit;
-  leads : (native : NativeState) → Begins (plain_of l.initial.self.cpu.regs) native l.initial.trail
-      → Leads l.limit (l.limit - l.left) l.initial.self l.self native l.trail;
+  leads : (native : NativeState) (begun steps : ℕ) → Begins (plain_of l.initial.self.cpu.regs) native (gathered begun steps l.initial.ends)
+      → Leads l.limit (l.limit - l.left) l.initial.self l.self native (gathered begun (steps + (l.limit - l.left)) l.ends);
   ram : length l.self.world.ram ≡ length l.initial.self.world.ram;
 }
 
