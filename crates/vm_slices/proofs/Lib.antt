@@ -1,6 +1,7 @@
 pub mod Adopted
 pub mod Attached
 pub mod Fits
+pub mod LastOne
 pub mod Lent
 pub mod Orders
 pub mod Places

@@ -1,7 +1,7 @@
 -- Guests that are seated: one that changes, its turn, and a further one behind them.
 use Rattle.std.proofs.Common.{◌≡◌, ◌≢◌, ◌∙◌, ℕ, zero, suc, ◌+◌, ◌≤◌, ◌<◌, List, [], ◌∷◌, ◌++◌, length, get_or, set, drop, map}
-use Rattle.std.proofs.Common.{true, refl, ap, sym, subst, inl, arith, Some}
-use Rattle.std.specs.Prelude.{slice_get, ◌&&◌, All}
+use Rattle.std.proofs.Common.{◌⊎◌, Bool, true, false, refl, ap, sym, subst, inl, inr, arith, Some}
+use Rattle.std.specs.Prelude.{slice_get, ◌&&◌, All, if◌then◌else◌}
 use Rattle.std.proofs.Common.{append_assoc}
 use Rattle.std.proofs.lemmas.List.{append-nil, map-append, map-set}
 use Rattle.mb_instr.specs.declared.registers.Plain.{Plain}
@@ -17,7 +17,7 @@ use Rattle.vm_guest.proofs.Joining.{guests_join}
 use Rattle.vm_slices.specs.declared.host_guest.HostGuest.{HostGuest}
 use Rattle.def_guests.proofs.Trails.{trail_append}
 use Rattle.vm_slices.specs.Counting.{AreCounted, HasRoom, RisesBy}
-use Rattle.vm_slices.specs.Members.{after_turn, IsBounded}
+use Rattle.vm_slices.specs.Members.{after_turn, going, IsBounded}
 use Rattle.vm_slices.specs.Places.{member_of, members_of, seats_of, with_member, with_turn, exceptions_at, marks_at}
 
 -- ---- one of them
@@ -52,6 +52,35 @@ none_behind [] ram zero more = refl
 none_behind [] ram (suc i) more = refl
 none_behind (k ∷ ks) ram zero more = absurd (omega arith)
 none_behind (k ∷ ks) ram (suc i) more = none_behind ks ram i (omega arith)
+
+-- and of those from there on as many have steps left as it has or has not, and those behind it
+pub going_from : (gs : List HostGuest) (ram : List ℕ) (i : ℕ) (g : HostGuest) → i < length gs → g ≡ get_or gs i g
+    → going (members_of (drop i gs) ram) ≡ (if is_done (member_of ram g) then 0 else 1) + going (members_of (drop (i + 1) gs) ram)
+going_from [] ram i g less is = absurd (omega arith)
+going_from (k ∷ ks) ram zero g less is = ap (λ (a : HostGuest). (if is_done (member_of ram a) then 0 else 1) + going (members_of ks ram)) (sym is)
+going_from (k ∷ ks) ram (suc i) g less is =
+    going_from ks ram i g (omega arith) is
+    ∙ ap (λ (n : ℕ). (if is_done (member_of ram g) then 0 else 1) + going (members_of (drop n (k ∷ ks)) ram))
+    (let e : suc (i + 1) ≡ suc i + 1 = omega arith in e)
+
+-- whether one was found that has, and no more
+pub one_found : (some done found : Bool) (rest from all : ℕ)
+    → ((done ≡ false) × (some ≡ false) × (found ≡ true)) ⊎ ((done ≡ true) × (found ≡ some))
+    → from ≡ (if done then 0 else 1) + rest → (if some then 1 else 0) + from ≡ all → (if found then 1 else 0) + rest ≡ all
+one_found some done found rest from all (inl (more, none, is)) begins counted =
+    rw is (let b = rw more at begins in let c = rw none at counted in omega arith)
+one_found some done found rest from all (inr (nothing, is)) begins counted =
+    rw is (let b = rw nothing at begins in omega arith)
+
+pub at_most_one : (some : Bool) (rest all : ℕ) → rest ≡ 0 → (if some then 1 else 0) + rest ≡ all → all ≤ 1
+at_most_one true rest all none counted = omega arith
+at_most_one false rest all none counted = omega arith
+
+pub none_going : (gs : List HostGuest) (ram : List ℕ) (i : ℕ) → length gs ≤ i → going (members_of (drop i gs) ram) ≡ 0
+none_going [] ram zero more = refl
+none_going [] ram (suc i) more = refl
+none_going (k ∷ ks) ram zero more = absurd (omega arith)
+none_going (k ∷ ks) ram (suc i) more = none_going ks ram i (omega arith)
 
 -- ---- one that changes
 

@@ -18,7 +18,7 @@ use Rattle.vm_slices.proofs.Turns.{turn_left}
 
 -- ---- what is left
 
-nothing_left : (ms : List Member) → left_of_all ms ≤ 0 → all_done ms ≡ true
+pub nothing_left : (ms : List Member) → left_of_all ms ≤ 0 → all_done ms ≡ true
 nothing_left [] h = refl
 nothing_left (m ∷ ms) h = rw (no_more (left m) (omega arith)) (nothing_left ms (omega arith))
 
@@ -64,12 +64,12 @@ all_left_few (m ∷ ms) all =
 
 -- ---- rounds
 
-rounds_stay : (slice n : ℕ) (h : Hosted) → all_done h.members ≡ true → rounds slice n h ≡ h
+pub rounds_stay : (slice n : ℕ) (h : Hosted) → all_done h.members ≡ true → rounds slice n h ≡ h
 unfolding rounds
 rounds_stay slice zero h done = refl
 rounds_stay slice (suc n) h done = rw done refl
 
-rounds_go : (slice n : ℕ) (h : Hosted) → all_done h.members ≡ false → rounds slice (suc n) h ≡ rounds slice n (round slice h)
+pub rounds_go : (slice n : ℕ) (h : Hosted) → all_done h.members ≡ false → rounds slice (suc n) h ≡ rounds slice n (round slice h)
 unfolding rounds
 rounds_go slice n h more = rw more refl
 
@@ -89,7 +89,7 @@ enough slice (suc n) (suc k) h some few more = elim (cases_Bool (all_done h.memb
 ]
 
 -- they go on from a round,
-go_on : (slice : ℕ) (h : Hosted) → 1 ≤ slice → all_done h.members ≡ false → host_run slice (round slice h) ≡ host_run slice h
+pub go_on : (slice : ℕ) (h : Hosted) → 1 ≤ slice → all_done h.members ≡ false → host_run slice (round slice h) ≡ host_run slice h
 go_on slice h some more =
     let n = left_of_all h.members in
     let less = round_left slice h.members some more in
@@ -113,19 +113,21 @@ pub record SoFar (slice : ℕ) (first now : List Member) (old new : NativeState)
 pub none_so_far : (slice : ℕ) (ms : List Member) (native : NativeState) → SoFar slice ms ms native native
 none_so_far slice ms native = record { marks = []; left_times = 0; run = refl; counts = nothing_counted ms native; rises = (omega arith, omega arith) }
 
-pub one_round : (slice : ℕ) (first now next : List Member) (o p q : NativeState) → 1 ≤ slice → all_done now ≡ false
-    → next ≡ members_after slice now → SoFar slice first now o p → AreCounted now next (marks_after slice now) (exceptions_after slice now) p q
+-- so that a round of turns of another number of steps, from which they go on, leads to the same end
+pub one_round : (slice other : ℕ) (first now next : List Member) (o p q : NativeState)
+    → ((h : Hosted) → h.members ≡ now → host_run slice (round other h) ≡ host_run slice h)
+    → next ≡ members_after other now → SoFar slice first now o p → AreCounted now next (marks_after other now) (exceptions_after other now) p q
     → RisesBy (left_of_all now) (left_of_all next) p q → SoFar slice first next o q
-one_round slice first now next o p q some more is far counts rises =
-    let marks = far.marks ++ marks_after slice now in
-    let left_times = far.left_times + exceptions_after slice now in
+one_round slice other first now next o p q goes is far counts rises =
+    let marks = far.marks ++ marks_after other now in
+    let left_times = far.left_times + exceptions_after other now in
     let a = far.rises.0 in let b = rises.0 in let c = far.rises.1 in let d = rises.1 in
     record {
       marks = marks;
       left_times = left_times;
       run = ap (λ (ms : List Member). host_run slice (record { members = ms; marks = marks; exceptions = left_times })) is
-          ∙ go_on slice (record { members = now; marks = far.marks; exceptions = far.left_times }) some more ∙ far.run;
-      counts = counted_on first now next far.marks (marks_after slice now) far.left_times (exceptions_after slice now) o p q far.counts counts;
+          ∙ goes (record { members = now; marks = far.marks; exceptions = far.left_times }) refl ∙ far.run;
+      counts = counted_on first now next far.marks (marks_after other now) far.left_times (exceptions_after other now) o p q far.counts counts;
       rises = (omega arith, omega arith);
     }
 

@@ -1,5 +1,5 @@
 -- The guests of a session, as contracts see them, and what becomes of them.
-use Rattle.std.specs.Prelude.{ℕ, ◌-◌, ◌^◌, ◌<◌, List, [], map, slice_get, Option}
+use Rattle.std.specs.Prelude.{ℕ, ◌+◌, ◌-◌, ◌^◌, ◌<◌, List, [], ◌∷◌, map, slice_get, Option, if◌then◌else◌}
 use Rattle.vm_disk.specs.Disk.{DiskState}
 use Rattle.mb_devices.specs.Devices.{DeviceState}
 use Rattle.mb_model.specs.Keeping.{rule_k}
@@ -7,7 +7,7 @@ use Rattle.mb_model.specs.Seen.{Seen}
 use Rattle.def_machine.specs.Machine.{Machine, Outcome, outcome_of, run_of, seen_machine}
 use Rattle.def_guests.specs.Turns.{Tally, no_steps, prepared}
 use Rattle.def_guests.specs.Seats.{Seat}
-use Rattle.def_guests.specs.Rounds.{Member, Hosted, left, closed_by, turn_in, host_run, whole_turn}
+use Rattle.def_guests.specs.Rounds.{Member, Hosted, left, is_done, closed_by, turn_in, host_run, whole_turn}
 use Rattle.vm_guest.specs.Session.{GuestAtStart}
 
 -- ---- one guest
@@ -36,6 +36,11 @@ machine_at_end m = run_of rule_k m.script (left m) m.guest.machine
 -- and what is counted of its steps then
 abbrev pub tally_at_end : Member → Tally
 tally_at_end m = (whole_turn m).tally
+
+-- how many guests have steps left
+abbrev pub going : List Member → ℕ
+going [] = 0
+going (m ∷ members) = (if is_done m then 0 else 1) + going members
 
 -- a count of steps is a number of 32 bits
 abbrev pub IsBounded : Member → Type 0

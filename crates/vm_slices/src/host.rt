@@ -1,6 +1,7 @@
 //! A board with all guests of a session.
 
-ghost use Rattle.std.specs.Prelude.{◌≡◌, ◌+◌, ◌-◌, ◌^◌, ◌<◌, ◌≤◌, length, map, true, Some, IfOk, IfErr, IfSome, All};
+ghost use Rattle.std.specs.Prelude.{◌≡◌, ◌⊎◌, ◌+◌, ◌-◌, ◌^◌, ◌<◌, ◌≤◌, length, map, true};
+ghost use Rattle.std.specs.Prelude.{Some, IfOk, IfErr, IfSome, All};
 ghost use Rattle.mb_model.specs.Seen.{seen_of};
 ghost use Rattle.def_guests.specs.Rounds.{all_done, left_of_all, members_after, marks_after, exceptions_after};
 ghost use Rattle.def_guests.specs.Stages.{AllSeated};
@@ -13,14 +14,14 @@ ghost use Rattle.mb_script.specs.declared.sizes.TheConstants.{MOST_GUESTS};
 ghost use Rattle.vm_slices.specs.Adopting.{kept_at, scripts_of, KeepsLawfully};
 ghost use Rattle.vm_slices.specs.Counting.{AreCounted, HasRoom, RisesBy};
 ghost use Rattle.vm_slices.specs.Members.{member_at_start, machine_at_end, tally_at_end, after_rounds, IsBounded};
-ghost use Rattle.vm_slices.specs.Members.{machines_of, tallies_of, devices_of, shown_of, numbered};
+ghost use Rattle.vm_slices.specs.Members.{going, machines_of, tallies_of, devices_of, shown_of, numbered};
 ghost use Rattle.vm_slices.specs.Orders.{after_order, each_given, machines_given};
 ghost use Rattle.vm_slices.specs.Places.{exceptions_at, marks_at, members_in, members_of, seats_of, with_turn};
 
 use crate::fit::judge_fit;
 use crate::host_guest::HostGuest;
 use crate::open_fault::OpenFault;
-use crate::rounds::{are_done, take_round, take_turn};
+use crate::rounds::{are_done, is_one_left, take_round, take_turn};
 use def_guests::MONITOR_BYTES;
 use mb_board::{Board, Native};
 use mb_devices::Devices;
@@ -115,17 +116,31 @@ impl Host {
         are_done(&self.board, &self.guests)
     }
 
-    fn take_round(&mut self, native: &mut Native)
+    /// How many steps a turn of the next round has at most: a slice, but all that are left where no other guest waits
+    /// for its turn.
+    fn next_slice(&self) -> u32
+        ensures some { 1 ≤ self.now.slice → 1 ≤ result }
+        ensures slice { (result ≡ self.now.slice) ⊎ (going (members_in self.now) ≤ 1) }
+    {
+        if is_one_left(&self.board, &self.guests) {
+            u32::MAX
+        } else {
+            self.slice
+        }
+    }
+
+    /// A round, of turns of no more than so many steps.
+    fn take_round(&mut self, slice: u32, native: &mut Native)
         requires room { HasRoom (left_of_all (members_in self.old)) native.old }
-        ensures members { members_in self.new ≡ members_after self.old.slice (members_in self.old) }
+        ensures members { members_in self.new ≡ members_after slice (members_in self.old) }
         ensures counts { AreCounted (members_in self.old) (members_in self.new)
-            (marks_after self.old.slice (members_in self.old))
-            (exceptions_after self.old.slice (members_in self.old)) native.old native.new }
+            (marks_after slice (members_in self.old))
+            (exceptions_after slice (members_in self.old)) native.old native.new }
         ensures slice { self.new.slice ≡ self.old.slice }
         ensures rises { RisesBy (left_of_all (members_in self.old)) (left_of_all (members_in self.new))
             native.old native.new }
     {
-        take_round(&mut self.board, &mut self.guests, self.slice, native);
+        take_round(&mut self.board, &mut self.guests, slice, native);
     }
 
     /// The turn of one guest, of no more steps than it has left.
@@ -168,7 +183,8 @@ impl Host {
     }
 
     /// Rounds, in each of which every guest in turn takes up to a slice of steps, until each has done its steps or is
-    /// halted or off. The board carries out their retired steps, and `native` counts them.
+    /// halted or off. The last one that has steps left goes on without a stop. The board carries out their retired
+    /// steps, and `native` counts them.
     pub fn run(&mut self, native: &mut Native)
         requires native { (native.old.retired < 2 ^ 61) × (native.old.exceptions < 2 ^ 61) }
         ensures rounds { members_in self.new ≡ (after_rounds self.old.slice (members_in self.old)).members }
@@ -185,7 +201,8 @@ impl Host {
     {
         let _ = self.guest_count();
         while !self.is_done() {
-            self.take_round(native);
+            let slice = self.next_slice();
+            self.take_round(slice, native);
         }
     }
 

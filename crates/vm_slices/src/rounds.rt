@@ -1,10 +1,10 @@
 //! Rounds: in each, every guest takes its turn.
 
-ghost use Rattle.std.specs.Prelude.{◌≡◌, ◌≢◌, ℕ, ◌<◌, length, slice_get, All};
+ghost use Rattle.std.specs.Prelude.{◌≡◌, ◌≢◌, ℕ, ◌<◌, ◌≤◌, length, slice_get, true, All};
 ghost use Rattle.def_guests.specs.Rounds.{all_done, left_of_all, members_after, marks_after, exceptions_after};
 ghost use Rattle.def_guests.specs.Stages.{AllSeated};
 ghost use Rattle.vm_slices.specs.Counting.{AreCounted, HasRoom, RisesBy};
-ghost use Rattle.vm_slices.specs.Members.{IsBounded};
+ghost use Rattle.vm_slices.specs.Members.{going, IsBounded};
 ghost use Rattle.vm_slices.specs.Places.{members_of, seats_of, with_turn, exceptions_at, marks_at};
 
 use crate::host_guest::HostGuest;
@@ -70,6 +70,23 @@ pub(crate) fn are_done(board: &Board, guests: &[HostGuest]) -> bool
     for guest in guests {
         if !guest.is_done(board) {
             return false;
+        }
+    }
+    true
+}
+
+/// Whether no more than one guest has steps left.
+pub(crate) fn is_one_left(board: &Board, guests: &[HostGuest]) -> bool
+    requires { AllSeated (seats_of guests.now) board.now.world.ram }
+    ensures { result ≡ true → going (members_of guests.now board.now.world.ram) ≤ 1 }
+{
+    let mut some = false;
+    for guest in guests {
+        if !guest.is_done(board) {
+            if some {
+                return false;
+            }
+            some = true;
         }
     }
     true

@@ -1,8 +1,8 @@
-use Rattle.std.proofs.Common.{◌≡◌, ◌∙◌, ℕ, ◌<◌, List, true, false, refl, ap, sym, subst, arith}
-use Rattle.def_guests.specs.Rounds.{Member, all_done, left_of_all, marks_after, exceptions_after, members_after}
-use Rattle.vm_slices.specs.Counting.{AreCounted}
+use Rattle.std.proofs.Common.{◌≡◌, ◌∙◌, ◌⊎◌, ℕ, ◌<◌, ◌≤◌, List, true, false, refl, ap, sym, subst, arith}
+use Rattle.def_guests.specs.Rounds.{Member, all_done, left_of_all}
 use Rattle.vm_slices.specs.Places.{HostState, members_in}
-use Rattle.vm_slices.specs.Members.{machines_of, tallies_of}
+use Rattle.vm_slices.specs.Members.{going, machines_of, tallies_of}
+use Rattle.vm_slices.proofs.LastOne.{goes_on}
 use Rattle.vm_slices.proofs.RoundLaws.{first_room, machines_end, none_so_far, one_round, rises_few, room_after, round_left, run_ends, tallies_end}
 use Rattle.vm_slices.proofs.host.Host.run.Goals as goal
 
@@ -11,7 +11,7 @@ loop-self-smaller c =
     let s = c.loop-self.self in
     let more : all_done (members_in s) ≡ false = sym c.is_done.ensures.done ∙ c.loop-self-test.true in
     subst (λ (ms : List Member). left_of_all ms < left_of_all (members_in s)) (sym c.take_round.ensures.members)
-    (round_left s.slice (members_in s) c.is_done.ensures.slice more)
+    (round_left c.next_slice-slice.result (members_in s) (c.next_slice-slice.ensures.some c.is_done.ensures.slice) more)
 
 pub loop-self-init : goal.loop-self-init
 loop-self-init c = record {
@@ -40,13 +40,12 @@ loop-self-preserved c =
     let slice = c.loop-self.invariant.slice in
     let some = c.is_done.ensures.slice in
     let after = c.take_round.ensures in
+    let next = c.next_slice-slice.result in
     record {
-      far = one_round first.slice (members_in first) (members_in s) (members_in c.take_round.new.self) c.args.native.now c.loop-self.native
-          c.take_round.new.native (omega (arith, slice, some)) more
-          (after.members ∙ ap (λ (n : ℕ). members_after n (members_in s)) slice) c.loop-self.invariant.far
-          (subst (λ (n : ℕ). AreCounted (members_in s) (members_in c.take_round.new.self) (marks_after n (members_in s))
-          (exceptions_after n (members_in s)) c.loop-self.native
-          c.take_round.new.native) slice after.counts) after.rises;
+      far = one_round first.slice next (members_in first) (members_in s) (members_in c.take_round.new.self) c.args.native.now c.loop-self.native
+          c.take_round.new.native (goes_on first.slice next (members_in s) (omega (arith, slice, some)) more
+          (subst (λ (n : ℕ). (next ≡ n) ⊎ (going (members_in s) ≤ 1)) slice c.next_slice-slice.ensures.slice))
+          after.members c.loop-self.invariant.far after.counts after.rises;
       slice = after.slice ∙ slice;
       again = λ done. absurd (
           let same = ap (λ (h : HostState). all_done (members_in h)) (c.loop-self.invariant.again done).0 in
