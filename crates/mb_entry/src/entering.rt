@@ -8,9 +8,9 @@ ghost use Rattle.mb_entry.specs.Clauses.{RegsAfter, LeavesCpu, IfFaulted, IfHalt
 use crate::places::{Places, check_frames, put_frames};
 use crate::stacking::{frames_for, offset, set_handler_regs};
 use def_processor::{Cause, Entered};
-use mb_ea::read_value;
 use mb_instr::Size;
 use mb_model::Cpu;
+use mb_operands::read_memory;
 use mb_port::{Fault, Port, Space};
 
 /// What follows where a check of the frame was refused.
@@ -38,7 +38,7 @@ fn go_to_handler<P: Port>(cause: &Cause, cpu: &mut Cpu, port: &mut P) -> Entered
     ensures rest { P.rest port.new ≡ P.rest port.old }
 {
     let entry = cpu.vbr.wrapping_add(u32::from(offset(cause.vector)));
-    match read_value(Space::Super, entry, Size::Long, port) {
+    match read_memory(Space::Super, entry, Size::Long, port) {
         Ok(target) => {
             cpu.regs.pc = target;
             Entered::Done

@@ -12,11 +12,12 @@ ghost use Rattle.mb_entry.specs.Clauses.{NotTaken};
 use crate::frame_longs::{access_from, high, low};
 use arrayvec::ArrayVec;
 use mb_decode::{Decoded, decode};
-use mb_ea::{ReadFault, read_value};
+use mb_ea::ReadFault;
 use mb_frames::{Access, CM, FIELDS_PLACE, FORMAT_PLACE, LONGEST, LONGS, PC_PLACE, SR_PLACE};
 use mb_instr::vectors::FORMAT_ERROR;
 use mb_instr::{Instr, Move, Regs, Size};
 use mb_model::kept_status;
+use mb_operands::read_memory;
 use mb_port::{Port, Space, word_has};
 use mb_writes::{Ended, count};
 
@@ -42,9 +43,9 @@ fn read_head<P: Port>(at: u32, port: &mut P) -> Result<Head, ReadFault>
     ensures means { run P.bus (read_head_of at) (P.world port.old) ≡ (headed result, P.world port.new) }
     ensures rest { P.rest port.new ≡ P.rest port.old }
 {
-    let sr = read_value(Space::Super, at.wrapping_add(SR_PLACE), Size::Word, port)?;
-    let pc = read_value(Space::Super, at.wrapping_add(PC_PLACE), Size::Long, port)?;
-    let word = read_value(
+    let sr = read_memory(Space::Super, at.wrapping_add(SR_PLACE), Size::Word, port)?;
+    let pc = read_memory(Space::Super, at.wrapping_add(PC_PLACE), Size::Long, port)?;
+    let word = read_memory(
         Space::Super,
         at.wrapping_add(FORMAT_PLACE),
         Size::Word,
@@ -67,7 +68,7 @@ fn read_longs<P: Port>(at: u32, port: &mut P) -> Result<ArrayVec<u32, LONGS>, Re
     let mut longs = ArrayVec::new();
     let mut at = at;
     for i in 0..LONGS {
-        match read_value(Space::Super, at, Size::Long, port) {
+        match read_memory(Space::Super, at, Size::Long, port) {
             Ok(long) => longs.push(long),
             Err(refused) => return Err(refused),
         }
