@@ -1,5 +1,5 @@
 -- Reads and writes of a physical piece, by whether it lies in RAM.
-use Rattle.std.proofs.Common.{◌≡◌, ℕ, true, false, refl, length}
+use Rattle.std.proofs.Common.{◌≡◌, ℕ, ◌||◌, Bool, true, false, refl, List, length, if◌then◌else◌}
 use Rattle.std.specs.Prelude.{Option, Some, None, is_some}
 use Rattle.mb_port.specs.declared.types.Place.{Place}
 use Rattle.mb_devices.specs.declared.register.Register.{Register}
@@ -7,7 +7,7 @@ use Rattle.mb_devices.specs.Devices.{DeviceState}
 use Rattle.mb_devices.specs.Registers.{register_at, read_register, read_of, write_register, write_of}
 use Rattle.mb_walk.specs.Memory.{number_at, with_number}
 use Rattle.def_machine.specs.World.{World}
-use Rattle.def_machine.specs.Places.{in_ram, among_registers, taken, taken_at, stored, stored_at, takes_writes, is_somewhere}
+use Rattle.def_machine.specs.Places.{in_ram, memory, among_registers, taken, taken_at, stored, stored_at, takes_writes, is_somewhere}
 
 -- the world after its devices did something, with what they answered
 abbrev pub read_devices : World → Option ℕ × DeviceState → Option ℕ × World
@@ -20,14 +20,6 @@ wrote_devices w (None, devices) = None
 pub taken_memory : (w : World) (place : Place) → in_ram (length w.ram) place.at place.len ≡ true
     → taken place w ≡ (Some (number_at w.ram place.at place.len), w)
 taken_memory w place h = rw h refl
-
-among_read : (o : Option Register) (w : World) (place : Place) → taken_at (among_registers o) place w ≡ read_devices w (read_register o w.devices)
-among_read (Some r) w place = refl
-among_read None w place = refl
-
-pub taken_register : (w : World) (place : Place) → in_ram (length w.ram) place.at place.len ≡ false
-    → taken place w ≡ read_devices w (read_of place w.devices)
-taken_register w place h = rw h (among_read (register_at w.devices place) w place)
 
 pub stored_memory : (w : World) (place : Place) (value : ℕ) → in_ram (length w.ram) place.at place.len ≡ true
     → stored place value w ≡ Some (record w { ram = with_number w.ram place.at place.len value })
@@ -45,16 +37,41 @@ stored_register w place value h = rw h (among_wrote (register_at w.devices place
 pub takes_memory : (w : World) (place : Place) → in_ram (length w.ram) place.at place.len ≡ true → takes_writes w place ≡ true
 takes_memory w place h = rw h refl
 
-among_takes : (o : Option Register) → is_somewhere (among_registers o) ≡ is_some o
-among_takes (Some r) = refl
-among_takes None = refl
+-- ---- the same of any place, by RAM and devices alone
 
-pub takes_register : (w : World) (place : Place) → in_ram (length w.ram) place.at place.len ≡ false
-    → takes_writes w place ≡ is_some (register_at w.devices place)
-takes_register w place h = rw h (among_takes (register_at w.devices place))
+-- the world after RAM and devices did something
+abbrev pub wrote_both : World → List ℕ → Option (Unit {0}) × DeviceState → Option World
+wrote_both w ram (Some done, devices) = Some (record w { ram = ram; devices = devices })
+wrote_both w ram (None, devices) = None
 
-pub ruleset reads = (taken_memory, taken_register)
+read_either : (b : Bool) (o : Option Register) (w : World) (place : Place) → taken_at (if b then memory else among_registers o) place w
+    ≡ read_devices w (if b then (Some (number_at w.ram place.at place.len), w.devices) else read_register o w.devices)
+read_either true o w place = refl
+read_either false (Some r) w place = refl
+read_either false None w place = refl
 
-pub ruleset writes = (stored_memory, stored_register)
+pub taken_is : (w : World) (place : Place) → taken place w
+    ≡ read_devices w (if in_ram (length w.ram) place.at place.len then (Some (number_at w.ram place.at place.len), w.devices) else read_of place w.devices)
+taken_is w place = read_either (in_ram (length w.ram) place.at place.len) (register_at w.devices place) w place
 
-pub ruleset takes = (takes_memory, takes_register)
+wrote_either : (b : Bool) (o : Option Register) (w : World) (place : Place) (value : ℕ)
+    → stored_at (if b then memory else among_registers o) place value w
+    ≡ wrote_both w (if b then with_number w.ram place.at place.len value else w.ram) (if b then (Some tt, w.devices) else write_register o value w.devices)
+wrote_either true o w place value = refl
+wrote_either false (Some r) w place value = refl
+wrote_either false None w place value = refl
+
+pub stored_is : (w : World) (place : Place) (value : ℕ) → stored place value w
+    ≡ wrote_both w (if in_ram (length w.ram) place.at place.len then with_number w.ram place.at place.len value else w.ram)
+    (if in_ram (length w.ram) place.at place.len then (Some tt, w.devices) else write_of place value w.devices)
+stored_is w place value = wrote_either (in_ram (length w.ram) place.at place.len) (register_at w.devices place) w place value
+
+takes_either : (b : Bool) (o : Option Register) → is_somewhere (if b then memory else among_registers o) ≡ (b || is_some o)
+takes_either true o = refl
+takes_either false (Some r) = refl
+takes_either false None = refl
+
+pub takes_is : (w : World) (place : Place) → takes_writes w place ≡ (in_ram (length w.ram) place.at place.len || is_some (register_at w.devices place))
+takes_is w place = takes_either (in_ram (length w.ram) place.at place.len) (register_at w.devices place)
+
+pub ruleset places = (taken_is, stored_is, takes_is)

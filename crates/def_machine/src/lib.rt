@@ -8,6 +8,7 @@
 
 mod laws;
 mod lines;
+mod places;
 mod reference;
 mod registers;
 mod settling;
@@ -17,6 +18,7 @@ pub use laws::{
     memory_stays_bytes, refused_accesses,
 };
 pub use lines::{store_line, take_line};
+pub use places::{in_ram, store, take, takes_writes};
 pub use reference::{Reference, Settled};
 pub use registers::{MMU_AT_RESET, MMUSR_MATCHED};
 pub use settling::{admits, by_entry, marks, root, through, untranslated};

@@ -3,22 +3,16 @@
 ghost use Rattle.std.specs.Prelude.{◌≡◌, ◌%◌, length, Some, None, if◌then◌else◌, is_some, take, IfNone, IfSome};
 ghost use Rattle.def_machine.specs.Places.{in_ram, line_at, with_longs};
 
+use crate::places::in_ram;
+use mb_port::Place;
 use mb_walk::Ram;
-
-/// Whether memory holds the whole of a line.
-#[inline(always)]
-fn is_line_in<R: Ram>(ram: &R, at: u32) -> bool
-    ensures { result ≡ in_ram (length (R.bytes ram.now)) at 16 }
-{
-    u64::from(at) + 16 <= u64::from(ram.size())
-}
 
 /// The four longs of the line at an address. `None` where memory does not hold the whole of it.
 pub fn take_line<R: Ram>(ram: &R, at: u32) -> Option<[u32; 4]>
     requires { at % 16 ≡ 0 }
     ensures { result ≡ (if in_ram (length (R.bytes ram.now)) at 16 then Some (line_at (R.bytes ram.now) at) else None) }
 {
-    if !is_line_in(ram, at) {
+    if !in_ram(ram, Place { at, len: 16 }) {
         return None;
     }
     Some([
@@ -39,7 +33,7 @@ pub fn store_line<R: Ram>(ram: &mut R, at: u32, line: [u32; 4]) -> Option<()>
     ensures size { length (R.bytes ram.new) ≡ length (R.bytes ram.old) }
     ensures rest { R.rest ram.new ≡ R.rest ram.old }
 {
-    if !is_line_in(ram, at) {
+    if !in_ram(ram, Place { at, len: 16 }) {
         return None;
     }
     let [first, second, third, fourth] = line;

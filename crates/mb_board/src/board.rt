@@ -278,7 +278,7 @@ impl Board {
             (with_contents self.old.world.ram (contents_from base (all_contents chunks.now)))) }
         ensures size { length self.new.world.ram ≡ length self.old.world.ram }
     {
-        put_chunks(&mut self.core.bus.ram, base, chunks);
+        put_chunks(&mut self.core.bus.ram.bytes, base, chunks);
     }
 
     /// So many bytes of RAM from a physical address on.

@@ -1,7 +1,7 @@
 //! The board as a bus and as memory: its inner bus, with all else of it left alone.
 
 ghost use Rattle.mb_port.specs.declared.types.Place.{Place};
-ghost use Rattle.mb_port.specs.Pieces.{IsLength};
+ghost use Rattle.mb_port.specs.Pieces.{IsAligned};
 ghost use Rattle.mb_model.specs.Keeping.{rule_a};
 ghost use Rattle.def_machine.specs.World.{World};
 ghost use Rattle.def_machine.specs.Bus.{bus_of};
@@ -27,7 +27,7 @@ impl Port for Board {
 
     ghost still = { λ w. w };
 
-    ghost exists = { λ rest place. IsLength place.len };
+    ghost exists = { λ rest place. IsAligned place.at place.len };
 
     fn fetch(&mut self, space: Space, at: u32) -> Result<u16, Fault> {
         self.core.bus.fetch(space, at)
@@ -93,11 +93,13 @@ impl Ram for Board {
         self.core.bus.size()
     }
 
-    fn long(&self, at: u32) -> u32 {
-        self.core.bus.long(at)
+    #[inline(always)]
+    fn number(&self, place: Place) -> u32 {
+        self.core.bus.number(place)
     }
 
-    fn set_long(&mut self, at: u32, value: u32) {
-        self.core.bus.set_long(at, value);
+    #[inline(always)]
+    fn set_number(&mut self, place: Place, value: u32) {
+        self.core.bus.set_number(place, value);
     }
 }

@@ -7,6 +7,7 @@ ghost use Rattle.mb_devices.specs.Devices.{idle, level_of, restarted, ticked};
 ghost use Rattle.def_machine.specs.Machine.{aborts, arrived, world_at_reset};
 ghost use Rattle.mb_board.specs.Arrivals.{IsNext};
 
+use crate::ram::BoardRam;
 use crate::receiving::{Arrival, receive};
 use mb_devices::Devices;
 use mb_mmu::Translator;
@@ -24,26 +25,25 @@ pub const MOST_BOARD_BYTES: u32 = 1024 * MOST_BOARD;
 /// RAM from address 0 on, the memory management unit with the kept translations, and the devices.
 #[derive(Drop)]
 pub struct BoardBus {
-    pub(crate) ram: Vec<u8>,
+    pub(crate) ram: BoardRam,
     pub(crate) translator: Translator,
     pub(crate) devices: Devices,
 }
 
 impl Model for BoardBus {
-    ghost use Rattle.std.specs.Prelude.{◌≡◌, ◌≤◌, vec_len};
+    ghost use Rattle.std.specs.Prelude.{◌≡◌, vec_len};
     ghost use Rattle.def_machine.specs.World.{World};
-    ghost use Rattle.mb_board.specs.declared.bus.TheConstants.{MOST_BOARD_BYTES};
 
     ghost Value = { World };
 
     ghost view = { λ b. record {
-      ram = b.ram.items;
+      ram = b.ram.bytes.items;
       mmu = b.translator.mmu;
       devices = b.devices;
       kept = b.translator.kept;
     } };
 
-    ghost invariant = { λ b. (vec_len b.ram ≤ MOST_BOARD_BYTES) × (b.translator.ram ≡ vec_len b.ram) };
+    ghost invariant = { λ b. b.translator.ram ≡ vec_len b.ram.bytes };
 }
 
 impl BoardBus {
@@ -52,11 +52,11 @@ impl BoardBus {
         requires { size ≤ MOST_BOARD_BYTES }
         ensures { IfOk result (λ bus. bus ≡ world_at_reset rule_a (idle size) (replicate size 0)) }
     {
-        let Ok(ram) = vec![in alloc; 0u8; size as usize] else {
+        let Ok(bytes) = vec![in alloc; 0u8; size as usize] else {
             return Err(Memory);
         };
         Ok(BoardBus {
-            ram,
+            ram: BoardRam { bytes },
             translator: Translator::new(alloc, size)?,
             devices: Devices::new(alloc, size)?,
         })
@@ -137,7 +137,7 @@ impl BoardBus {
     pub fn ram(&self) -> &[u8]
         ensures { result.now ≡ self.now.ram }
     {
-        &self.ram
+        &self.ram.bytes
     }
 
     pub fn mmu(&self) -> &Mmu
@@ -157,6 +157,6 @@ impl BoardBus {
         requires { at + length bytes.now ≤ length self.old.ram }
         ensures { self.new ≡ record self.old { ram = overwritten self.old.ram at bytes.now } }
     {
-        overwrite(&mut self.ram, at as usize, bytes);
+        overwrite(&mut self.ram.bytes, at as usize, bytes);
     }
 }

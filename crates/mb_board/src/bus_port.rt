@@ -1,31 +1,34 @@
-//! The calls of the bus.
+//! The calls of the bus, and its RAM.
 
 ghost use Rattle.std.specs.Prelude.{◌≡◌, ℕ, length, IfOk};
 ghost use Rattle.mb_port.specs.Routine.{Call};
-ghost use Rattle.mb_port.specs.Pieces.{IsLength, IsPiece};
+ghost use Rattle.mb_port.specs.Pieces.{IsAligned, IsPiece};
 ghost use Rattle.mb_model.specs.Keeping.{rule_a};
 ghost use Rattle.mb_devices.specs.Devices.{DeviceState};
 ghost use Rattle.def_machine.specs.World.{World};
 ghost use Rattle.def_machine.specs.Bus.{bus_of};
+ghost use Rattle.mb_board.specs.Beside.{without_ram};
 
 use crate::bus::BoardBus;
-use def_machine::{Reference, store_line, take_line};
+use def_machine::{Reference, store, store_line, take, take_line, takes_writes};
 use mb_instr::ControlRegister;
 use mb_port::{Fault, Flush, Mmu, MmuReg, Piece, Place, Port, Space};
+use mb_walk::Ram;
 
 impl BoardBus {
     /// Checks a piece for writing whose place is not known at once.
     #[inline(never)]
+    #[tactic(auto, using(def_machine::proofs::BusLemmas::places))]
     fn probe_slowly(&mut self, space: Space, piece: Piece) -> Result<Place, Fault>
         requires { IsPiece piece }
         ensures means { bus_of rule_a (Call.Probe space piece) self.old ≡ (result, self.new) }
-        ensures len { IfOk result (λ place. place.len ≡ piece.len) }
+        ensures found { IfOk result (λ place. IsAligned place.at place.len × (place.len ≡ piece.len)) }
         ensures size { length self.new.ram ≡ length self.old.ram }
     {
         let r = Reference::writing(space, piece.at);
         let at = self.translated(r).ok_or(r.refused(piece.len, true))?;
         let place = Place { at, len: piece.len };
-        if !self.takes_writes(place) {
+        if !takes_writes(&self.ram, &self.devices, place) {
             return Err(r.refused(piece.len, false));
         }
         Ok(place)
@@ -48,42 +51,47 @@ impl Port for BoardBus {
     ghost still = { λ w. w.devices };
 
     // what stands nowhere is read as 0, and takes no write
-    ghost exists = { λ size place. IsLength place.len };
+    ghost exists = { λ size place. IsAligned place.at place.len };
 
     #[inline(never)]
+    #[tactic(auto, using(def_machine::proofs::BusLemmas::places))]
     fn fetch(&mut self, space: Space, at: u32) -> Result<u16, Fault> {
         let r = Reference::fetching(space, at);
         let at = self.translated(r).ok_or(r.refused(2, true))?;
-        let word = self.take(Place { at, len: 2 }).ok_or(r.refused(2, false))?;
+        let place = Place { at, len: 2 };
+        let word = take(&self.ram, &mut self.devices, place).ok_or(r.refused(2, false))?;
         Ok(word as u16)
     }
 
     #[inline(never)]
+    #[tactic(auto, using(def_machine::proofs::BusLemmas::places))]
     fn read(&mut self, space: Space, piece: Piece) -> Result<u32, Fault> {
         let r = Reference::reading(space, piece.at);
         let at = self.translated(r).ok_or(r.refused(piece.len, true))?;
-        self.take(Place { at, len: piece.len })
-            .ok_or(r.refused(piece.len, false))
+        let place = Place { at, len: piece.len };
+        let value = take(&self.ram, &mut self.devices, place).ok_or(r.refused(piece.len, false))?;
+        Ok(value)
     }
 
     #[inline(never)]
+    #[tactic(auto, using(def_machine::proofs::BusLemmas::places))]
     fn write(&mut self, space: Space, piece: Piece, value: u32) -> Result<(), Fault> {
         let r = Reference::writing(space, piece.at);
         let at = self.translated(r).ok_or(r.refused(piece.len, true))?;
-        self.store(Place { at, len: piece.len }, value)
-            .ok_or(r.refused(piece.len, false))
+        let place = Place { at, len: piece.len };
+        store(&mut self.ram, &mut self.devices, place, value).ok_or(r.refused(piece.len, false))
     }
 
     #[inline(always)]
     fn quick_fetch(&self, space: Space, at: u32) -> Option<u16> {
         let at = self.found_at_once(Reference::fetching(space, at), 2)?;
-        Some(self.number(at as usize, 2) as u16)
+        Some(self.number(Place { at, len: 2 }) as u16)
     }
 
     #[inline(always)]
     fn quick_read(&self, space: Space, piece: Piece) -> Option<u32> {
         let at = self.found_at_once(Reference::reading(space, piece.at), piece.len)?;
-        Some(self.number(at as usize, piece.len))
+        Some(self.number(Place { at, len: piece.len }))
     }
 
     #[inline(always)]
@@ -91,7 +99,7 @@ impl Port for BoardBus {
         let Some(at) = self.found_at_once(Reference::writing(space, piece.at), piece.len) else {
             return false;
         };
-        self.set_number(at as usize, piece.len, value);
+        self.set_number(Place { at, len: piece.len }, value);
         true
     }
 
@@ -116,12 +124,14 @@ impl Port for BoardBus {
         self.probe_slowly(space, piece)
     }
 
+    #[tactic(auto, using(def_machine::proofs::BusLemmas::places))]
     fn get(&mut self, place: Place) -> u32 {
-        self.take(place).unwrap_or(0)
+        take(&self.ram, &mut self.devices, place).unwrap_or(0)
     }
 
+    #[tactic(auto, using(def_machine::proofs::BusLemmas::places))]
     fn put(&mut self, place: Place, value: u32) {
-        let _ = self.store(place, value);
+        let _ = store(&mut self.ram, &mut self.devices, place, value);
     }
 
     fn mmu(&self) -> Mmu {
@@ -143,5 +153,29 @@ impl Port for BoardBus {
 
     fn reset_devices(&mut self) {
         self.devices.reset();
+    }
+}
+
+impl Ram for BoardBus {
+    ghost bytes = { λ w. w.ram };
+
+    ghost Rest = { World };
+
+    ghost rest = { without_ram };
+
+    #[inline(always)]
+    fn size(&self) -> u32 {
+        self.ram.size()
+    }
+
+    #[inline(always)]
+    fn number(&self, place: Place) -> u32 {
+        self.ram.number(place)
+    }
+
+    #[inline(always)]
+    #[tactic(auto, using(mb_walk::proofs::MemoryLemmas::lengths))]
+    fn set_number(&mut self, place: Place, value: u32) {
+        self.ram.set_number(place, value);
     }
 }

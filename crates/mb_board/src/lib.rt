@@ -14,7 +14,7 @@ mod bus_port;
 mod following;
 mod lending;
 mod native;
-mod places;
+mod ram;
 mod receiving;
 mod running;
 mod spelling;

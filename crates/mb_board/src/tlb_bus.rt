@@ -1,35 +1,17 @@
 //! The bus of a machine that translates, as its quick calls know it.
 
-ghost use Rattle.std.specs.Prelude.{◌≡◌, ℕ, length, true, IfOk, IfSome, Some};
+ghost use Rattle.std.specs.Prelude.{ℕ, length};
 ghost use Rattle.std.specs.Borrow.{GName};
-ghost use Rattle.mb_port.specs.Routine.{Call};
-ghost use Rattle.mb_port.specs.Pieces.{IsLength, IsPiece};
+ghost use Rattle.mb_port.specs.Pieces.{IsAligned};
 ghost use Rattle.mb_model.specs.Keeping.{rule_a};
 ghost use Rattle.mb_devices.specs.Devices.{DeviceState};
-ghost use Rattle.def_machine.specs.Access.{translated};
 ghost use Rattle.def_machine.specs.Bus.{bus_of};
-ghost use Rattle.def_machine.specs.Places.{in_ram};
 ghost use Rattle.def_machine.specs.World.{World};
-ghost use Rattle.mb_mmu.specs.Sound.{IsAccess};
 
 use crate::bus::BoardBus;
 use def_machine::Reference;
 use mb_port::{Fault, Flush, Mmu, MmuReg, Piece, Place, Port, Space};
-
-impl BoardBus {
-    /// The place in RAM of so many bytes that a reference is known to lead to by the micro-TLB. `None` says nothing.
-    #[inline(always)]
-    #[tactic(auto, unfolding(def_machine::specs::Access::translated))]
-    fn found_in_tlb(&self, r: Reference, len: u8) -> Option<u32>
-        requires access { IsAccess r }
-        requires piece { IsPiece (record { at = r.at; len = len }) }
-        ensures leads { IfSome result (λ at. translated rule_a r self.now ≡ (Some at, self.now)) }
-        ensures inside { IfSome result (λ at. in_ram (length self.now.ram) at len ≡ true) }
-    {
-        let at = self.translator.place(r)?;
-        Some(at)
-    }
-}
+use mb_walk::Ram;
 
 /// A board's bus, whose quick calls do not ask whether translation is off: they find a place by the micro-TLB, or not
 /// at all. So a machine that translates pays for no question at each access; any other gets no answer by them.
@@ -55,7 +37,7 @@ impl Port for TlbBus<'_> {
     ghost still = { λ w. w.devices };
 
     // what stands nowhere is read as 0, and takes no write
-    ghost exists = { λ rest place. IsLength place.len };
+    ghost exists = { λ rest place. IsAligned place.at place.len };
 
     fn fetch(&mut self, space: Space, at: u32) -> Result<u16, Fault> {
         self.bus.fetch(space, at)
@@ -72,7 +54,7 @@ impl Port for TlbBus<'_> {
     #[inline(always)]
     fn quick_fetch(&self, space: Space, at: u32) -> Option<u16> {
         let at = self.bus.found_in_tlb(Reference::fetching(space, at), 2)?;
-        Some(self.bus.number(at as usize, 2) as u16)
+        Some(self.bus.number(Place { at, len: 2 }) as u16)
     }
 
     #[inline(always)]
@@ -80,7 +62,7 @@ impl Port for TlbBus<'_> {
         let at = self
             .bus
             .found_in_tlb(Reference::reading(space, piece.at), piece.len)?;
-        Some(self.bus.number(at as usize, piece.len))
+        Some(self.bus.number(Place { at, len: piece.len }))
     }
 
     #[inline(always)]
@@ -91,7 +73,7 @@ impl Port for TlbBus<'_> {
         else {
             return false;
         };
-        self.bus.set_number(at as usize, piece.len, value);
+        self.bus.set_number(Place { at, len: piece.len }, value);
         true
     }
 

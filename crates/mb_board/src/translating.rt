@@ -1,7 +1,7 @@
 //! Where a reference to memory leads: the stages of an access by the board's rule, and PTEST.
 
 ghost use Rattle.std.specs.Prelude.{◌≡◌, ◌<◌, ◌^◌, length, IfSome, Some, true};
-ghost use Rattle.mb_port.specs.Pieces.{IsPiece};
+ghost use Rattle.mb_port.specs.Pieces.{IsAligned, IsPiece};
 ghost use Rattle.mb_model.specs.Keeping.{after_ptest, rule_a};
 ghost use Rattle.mb_model.specs.Pages.{offset_of, page_of as page_number};
 ghost use Rattle.def_machine.specs.Access.{searched, translated};
@@ -12,7 +12,7 @@ ghost use Rattle.mb_mmu.specs.Sound.{IsAccess};
 use crate::bus::BoardBus;
 use def_machine::{MMUSR_MATCHED, Reference, Settled, root, through};
 use mb_model::{has_big_pages, other_half, page_of};
-use mb_port::{Flush, Place, Space};
+use mb_port::{Flush, Space};
 use mb_walk::{Found, search, transparent};
 
 impl BoardBus {
@@ -66,6 +66,20 @@ impl BoardBus {
         }
     }
 
+    /// The place in RAM of so many bytes that a reference is known to lead to by the micro-TLB. `None` says nothing.
+    #[inline(always)]
+    #[tactic(auto, unfolding(def_machine::specs::Access::translated))]
+    pub(crate) fn found_in_tlb(&self, r: Reference, len: u8) -> Option<u32>
+        requires access { IsAccess r }
+        requires piece { IsPiece (record { at = r.at; len = len }) }
+        ensures leads { IfSome result (λ at. translated rule_a r self.now ≡ (Some at, self.now)) }
+        ensures inside { IfSome result (λ at. in_ram (length self.now.ram) at len ≡ true) }
+        ensures aligned { IfSome result (λ at. IsAligned at len) }
+    {
+        let at = self.translator.place(r)?;
+        Some(at)
+    }
+
     /// The place in RAM of so many bytes that a reference is known to lead to. `None` says nothing.
     #[inline(always)]
     #[tactic(auto, unfolding(def_machine::specs::Access::translated))]
@@ -74,15 +88,15 @@ impl BoardBus {
         requires piece { IsPiece (record { at = r.at; len = len }) }
         ensures leads { IfSome result (λ at. translated rule_a r self.now ≡ (Some at, self.now)) }
         ensures inside { IfSome result (λ at. in_ram (length self.now.ram) at len ≡ true) }
+        ensures aligned { IfSome result (λ at. IsAligned at len) }
     {
         if self.translator.is_direct() {
-            if !self.in_ram(Place { at: r.at, len }) {
+            if u64::from(r.at) + u64::from(len) > self.ram.bytes.len() as u64 {
                 return None;
             }
             return Some(r.at);
         }
-        let at = self.translator.place(r)?;
-        Some(at)
+        self.found_in_tlb(r, len)
     }
 
     /// What PTEST drops of a page, and of the other half of it where pages have 8 KiB.

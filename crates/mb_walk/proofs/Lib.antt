@@ -4,7 +4,6 @@ pub mod Spelling
 pub mod Bits
 pub mod LongLemmas
 pub mod Parts
-pub mod InLongs
 pub mod Marks
 pub mod Again
 pub mod Inside

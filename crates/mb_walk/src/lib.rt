@@ -20,7 +20,7 @@ pub use laws::{
     writes_of_memory,
 };
 pub use longs::{long_at, set_long_at, size_of};
-pub use numbers::{number_at, number_in, overwrite, set_number_at, set_number_in};
+pub use numbers::{number_at, overwrite, set_number_at};
 pub use quiet::quiet_search;
 pub use ram::Ram;
 pub use searching::{TABLE_BYTES, search};

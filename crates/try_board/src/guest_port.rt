@@ -11,11 +11,11 @@ use Act::{Fetch, Find, Read, Set, SetMmu, Test, Write};
 use Space::{Super, User};
 use mb_devices::Devices;
 use mb_model::Cpu;
-use mb_port::{Flush, Mmu, MmuReg, Piece, Port, Space};
+use mb_port::{Flush, Mmu, MmuReg, Piece, Place, Port, Space};
 use mb_step::{Decoder, StepEnd, step};
 use mb_walk::Ram;
 use std::alloc::Global;
-use vm_port::GuestPort;
+use vm_port::{GuestMemory, GuestPort};
 use vm_shadow::Shadow;
 use vm_tlb::Tlb;
 
@@ -31,19 +31,16 @@ const POINTERS: u32 = 0xC200;
 
 const PAGES: u32 = 0xC400;
 
-/// The bus of a guest.
-macro_rules! port {
-    ($guest:expr) => {
-        GuestPort::new(
-            &mut $guest.ram,
-            BASE,
-            SIZE,
-            &mut $guest.devices,
-            &mut $guest.mmu,
-            &mut $guest.tlb,
-            &mut $guest.shadow,
-        )
-    };
+/// What an expression comes to over the bus of a guest, which it names.
+macro_rules! on_bus {
+    ($guest:expr, $bus:ident => $act:expr) => {{
+        let ram = &mut $guest.ram;
+        let memory = GuestMemory::new(ram, BASE, SIZE, &mut $guest.shadow);
+        let mut $bus = GuestPort::new(memory, &mut $guest.devices, &mut $guest.mmu, &mut $guest.tlb);
+        let result = $act;
+        let _ = ram.size();
+        result
+    }};
 }
 
 /// What a guest's bus borrows.
@@ -102,12 +99,10 @@ impl Guest {
     }
 
     /// Sets a long of its RAM.
-    #[tactic(auto, using(vm_port::proofs::Frames::lengths))]
     fn set(&mut self, at: u32, value: u32)
-        requires aligned { at % 4 ≡ 0 }
-        requires inside { at < 0x10000 }
+        requires { at % 4 ≡ 0 }
     {
-        port!(self).set_long(at, value);
+        on_bus!(self, bus => bus.put(Place { at, len: 4 }, value));
     }
 
     /// Sets a long of its RAM, where there is one.
@@ -131,39 +126,39 @@ impl Guest {
     fn fetch(&mut self, space: Space, at: u32) -> Option<u16>
         requires { at % 2 ≡ 0 }
     {
-        port!(self).fetch(space, at).ok()
+        on_bus!(self, bus => bus.fetch(space, at).ok())
     }
 
     /// Reads a long.
     fn read(&mut self, space: Space, at: u32) -> Option<u32>
         requires { at % 4 ≡ 0 }
     {
-        port!(self).read(space, Piece { at, len: 4 }).ok()
+        on_bus!(self, bus => bus.read(space, Piece { at, len: 4 }).ok())
     }
 
     /// Writes a long.
     fn write(&mut self, space: Space, at: u32, value: u32) -> Option<()>
         requires { at % 4 ≡ 0 }
     {
-        port!(self).write(space, Piece { at, len: 4 }, value).ok()
+        on_bus!(self, bus => bus.write(space, Piece { at, len: 4 }, value).ok())
     }
 
     fn set_mmu(&mut self, which: MmuReg, value: u32) {
-        port!(self).set_mmu(which, value);
+        on_bus!(self, bus => bus.set_mmu(which, value));
     }
 
     fn flush(&mut self, what: Flush)
         requires { NamesPage what }
     {
-        port!(self).flush(what);
+        on_bus!(self, bus => bus.flush(what));
     }
 
     fn test(&mut self, space: Space, at: u32) -> u32 {
-        port!(self).test(space, at, false)
+        on_bus!(self, bus => bus.test(space, at, false))
     }
 
     fn step(&mut self, decoder: &mut Decoder, cpu: &mut Cpu) -> StepEnd {
-        step(decoder, cpu, &mut port!(self), 0)
+        on_bus!(self, bus => step(decoder, cpu, &mut bus, 0))
     }
 
     /// What its shadow has of a page: a frame of memory, and whether it takes writes.

@@ -2,8 +2,8 @@
 
 ghost use Rattle.std.specs.Prelude.{◌≡◌, length};
 
-use mb_port::Space;
-use mb_walk::{Ram, long_at, set_long_at, size_of};
+use mb_port::{Place, Space};
+use mb_walk::{Ram, number_at, set_number_at, size_of};
 use std::alloc::Global;
 
 /// How many bytes it has.
@@ -37,12 +37,12 @@ impl Ram for Bytes {
         size_of(&self.memory)
     }
 
-    fn long(&self, at: u32) -> u32 {
-        long_at(&self.memory, at as usize)
+    fn number(&self, place: Place) -> u32 {
+        number_at(&self.memory, place.at as usize, place.len)
     }
 
     #[tactic(auto, using(mb_walk::proofs::MemoryLemmas::lengths))]
-    fn set_long(&mut self, at: u32, value: u32) {
-        set_long_at(&mut self.memory, at as usize, value);
+    fn set_number(&mut self, place: Place, value: u32) {
+        set_number_at(&mut self.memory, place.at as usize, place.len, value);
     }
 }

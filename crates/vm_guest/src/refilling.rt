@@ -16,7 +16,7 @@ use mb_entry::continues;
 use mb_frames::{Access, Frame, LK, RW};
 use mb_port::{Space, word_has};
 use mb_walk::Ram;
-use vm_port::GuestPort;
+use vm_port::{GuestMemory, GuestPort};
 
 /// Whether a fetch or a read of an operand was refused: of the special status word RW is set, and neither CM nor LK.
 fn is_read(access: &Access) -> bool
@@ -61,15 +61,8 @@ impl Guest {
         let Some(read) = read_by_frame(self.cpu.space(), frame) else {
             return false;
         };
-        let mut port = GuestPort::new(
-            ram,
-            self.base,
-            self.size,
-            &mut self.devices,
-            &mut self.mmu,
-            &mut self.tlb,
-            &mut self.shadow,
-        );
+        let memory = GuestMemory::new(ram, self.base, self.size, &mut self.shadow);
+        let mut port = GuestPort::new(memory, &mut self.devices, &mut self.mmu, &mut self.tlb);
         port.refill(read)
     }
 }

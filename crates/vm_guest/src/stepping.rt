@@ -20,7 +20,7 @@ use def_processor::StepEnd;
 use mb_board::{Board, receive, state_after};
 use mb_model::{NON_MASKABLE, RunState};
 use mb_walk::Ram;
-use vm_port::GuestPort;
+use vm_port::{GuestMemory, GuestPort};
 
 /// What came of the processor's part of a step.
 #[derive(Clone, Copy)]
@@ -77,15 +77,8 @@ impl Guest {
     {
         let _ = ram.size();
         let _ = self.tlb.entry(0);
-        let mut port = GuestPort::new(
-            ram,
-            self.base,
-            self.size,
-            &mut self.devices,
-            &mut self.mmu,
-            &mut self.tlb,
-            &mut self.shadow,
-        );
+        let memory = GuestMemory::new(ram, self.base, self.size, &mut self.shadow);
+        let mut port = GuestPort::new(memory, &mut self.devices, &mut self.mmu, &mut self.tlb);
         let end = rest.carry_out(&mut self.decoder, &mut self.cpu, &mut port, level);
         Processed {
             end,

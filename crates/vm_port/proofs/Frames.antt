@@ -1,5 +1,5 @@
 -- What a write in a part of memory leaves of the tables behind it, and what a change of the tables leaves of the part.
-use Rattle.std.proofs.Common.{◌≡◌, ◌∙◌, ℕ, ◌+◌, ◌≤◌, List, take, drop, ap, sym, arith}
+use Rattle.std.proofs.Common.{◌≡◌, ◌∙◌, ℕ, ◌+◌, ◌≤◌, Bool, List, take, drop, ap, sym, arith}
 use Rattle.std.proofs.lemmas.List.{take-take, drop-take}
 use Rattle.mb_walk.specs.Memory.{part, with_number}
 use Rattle.mb_walk.proofs.MemoryLemmas.{length-with_number}
@@ -8,7 +8,9 @@ use Rattle.vm_shadow.specs.Slots.{Slots}
 use Rattle.vm_shadow.specs.Mapped.{shadowed}
 use Rattle.vm_shadow.specs.declared.area.TheConstants.{AREA_BYTES}
 use Rattle.vm_shadow.specs.Area.{Maps}
+use Rattle.vm_shadow.specs.Shadows.{Shadowed}
 use Rattle.vm_shadow.proofs.Alone.{tables_are_of_the_area}
+use Rattle.vm_port.specs.Around.{Around, Beside}
 
 -- ---- the tables behind a write
 
@@ -46,6 +48,14 @@ around ram after base size area e below above = (
   take_below ram after base area (omega (arith, e)) below,
   ap (λ (n : ℕ). drop (n + AREA_BYTES) after) (sym e) ∙ above ∙ ap (λ (n : ℕ). drop (n + AREA_BYTES) ram) e,
 )
+
+-- ---- all but a guest's bytes, where its shadow and all around it stay
+
+pub beside_stays : {B : Type 0} (a b : Around B) (s t : Shadowed) (changed : Bool) → a ≡ b → s ≡ t
+    → (let now : Beside B = record { around = a; shadow = s; changed = changed } in now) ≡ record { around = b; shadow = t; changed = changed }
+beside_stays {B = B} a b s t changed h e =
+    ap (λ (x : Around B). (let now : Beside B = record { around = x; shadow = s; changed = changed } in now)) h
+    ∙ ap (λ (x : Shadowed). (let now : Beside B = record { around = b; shadow = x; changed = changed } in now)) e
 
 -- ---- what the code reads
 

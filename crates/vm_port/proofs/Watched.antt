@@ -8,7 +8,6 @@ use Rattle.mb_model.specs.Keeping.{rule_k}
 use Rattle.def_machine.specs.declared.reference.Reference.{Reference}
 use Rattle.def_machine.specs.World.{World}
 use Rattle.def_machine.specs.Access.{translated}
-use Rattle.def_machine.specs.Bus.{reference_of}
 use Rattle.vm_shadow.specs.Shadows.{Shadowed, nothing, with_page_put}
 use Rattle.def_guests.specs.Guests.{Guest}
 use Rattle.def_guests.specs.Bus.{accessed, gone, guest_bus, is_writable, put_entry_of, puts_entry, shadow_after, without_kept}

@@ -1,6 +1,5 @@
 pub mod Own
 pub mod Around
-pub mod Places
 pub mod Parts
 pub mod Quiet
 pub mod Watched

@@ -9,18 +9,49 @@ use Rattle.vm_shadow.specs.declared.area.TheConstants.{AREA_BYTES}
 use Rattle.def_guests.specs.Seats.{own}
 use Rattle.def_guests.specs.Guests.{Guest}
 use Rattle.vm_port.specs.Own.{guest_in}
-use Rattle.vm_port.specs.Around.{Beyond, Beside}
+use Rattle.vm_port.specs.Around.{Around, Beyond, Beside}
 use Rattle.vm_port.specs.Watched.{Watched}
+use Rattle.vm_port.specs.declared.memory.GuestMemory.{GuestMemory}
 use Rattle.vm_port.specs.declared.port.GuestPort.{GuestPort}
+
+-- ---- its memory
+
+-- the guest's bytes
+abbrev pub ram_of : {R : Type 0} {T : Ghosts R} → GuestMemory R T → List ℕ
+ram_of {T = T} m = part (T.bytes m.ram.now) m.base m.size
+
+-- its shadow
+abbrev pub shadow_of : {R : Type 0} {T : Ghosts R} → GuestMemory R T → Shadowed
+shadow_of {T = T} m = own m.base (shadowed m.shadow.now (T.bytes m.ram.now))
+
+-- all around them
+abbrev pub around_of : {R : Type 0} {T : Ghosts R} → GuestMemory R T → Around T.Rest
+around_of {T = T} m = record {
+  ram = m.ram.ghost_name;
+  shadow = m.shadow.ghost_name;
+  base = m.base;
+  size = m.size;
+  board = T.rest m.ram.now;
+  count = length (T.bytes m.ram.now);
+  below = take m.base (T.bytes m.ram.now);
+  above = drop (m.base + m.size + AREA_BYTES) (T.bytes m.ram.now);
+}
+
+-- all but its bytes
+abbrev pub beside_of : {R : Type 0} {T : Ghosts R} → GuestMemory R T → Beside T.Rest
+beside_of m = record { around = around_of m; shadow = shadow_of m; changed = m.changed }
+
+-- ---- the bus
 
 -- the guest
 abbrev pub guest_of : {R : Type 0} {T : Ghosts R} → GuestPort R T → Guest
 guest_of {T = T} p =
-    guest_in p.base p.size (T.bytes p.ram.now) p.shadow.now p.registers.now p.devices.now p.tlb.now
+    let m = p.memory in
+    guest_in m.base m.size (T.bytes m.ram.now) m.shadow.now p.registers.now p.devices.now p.tlb.now
 
 -- and whether its shadow may have changed
 abbrev pub watched_of : {R : Type 0} {T : Ghosts R} → GuestPort R T → Watched
-watched_of p = record { guest = guest_of p; changed = p.changed }
+watched_of p = record { guest = guest_of p; changed = p.memory.changed }
 
 -- its machine's world
 abbrev pub world_of : {R : Type 0} {T : Ghosts R} → GuestPort R T → World
@@ -28,35 +59,13 @@ world_of p = (guest_of p).world
 
 -- its shadow
 abbrev pub tables_of : {R : Type 0} {T : Ghosts R} → GuestPort R T → Shadowed
-tables_of {T = T} p = own p.base (shadowed p.shadow.now (T.bytes p.ram.now))
-
--- its bytes
-abbrev pub ram_of : {R : Type 0} {T : Ghosts R} → GuestPort R T → List ℕ
-ram_of {T = T} p = part (T.bytes p.ram.now) p.base p.size
+tables_of p = shadow_of p.memory
 
 -- all around it
 abbrev pub beyond_of : {R : Type 0} {T : Ghosts R} → GuestPort R T → Beyond T.Rest
-beyond_of {T = T} p = record {
-  ram = p.ram.ghost_name;
-  shadow = p.shadow.ghost_name;
+beyond_of p = record {
+  around = around_of p.memory;
   registers = p.registers.ghost_name;
   devices = p.devices.ghost_name;
   tlb = p.tlb.ghost_name;
-  base = p.base;
-  size = p.size;
-  board = T.rest p.ram.now;
-  count = length (T.bytes p.ram.now);
-  below = take p.base (T.bytes p.ram.now);
-  above = drop (p.base + p.size + AREA_BYTES) (T.bytes p.ram.now);
-}
-
--- all but its bytes
-abbrev pub beside_of : {R : Type 0} {T : Ghosts R} → GuestPort R T → Beside T.Rest
-beside_of p = record {
-  beyond = beyond_of p;
-  mmu = p.registers.now;
-  devices = p.devices.now;
-  kept = p.tlb.now;
-  shadow = tables_of p;
-  changed = p.changed;
 }

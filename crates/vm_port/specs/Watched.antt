@@ -1,5 +1,5 @@
 -- A guest's bus that tells whether the shadow may have changed.
-use Rattle.std.specs.Prelude.{◌≡◌, ℕ, Bool, true, false, if◌then◌else◌, length, Option, Some, None}
+use Rattle.std.specs.Prelude.{ℕ, Bool, true, if◌then◌else◌, Option, Some, None}
 use Rattle.mb_port.specs.Routine.{Call, Bus, SetMmu, FlushKept, Test}
 use Rattle.mb_model.specs.declared.kept.Kept.{Kept}
 use Rattle.mb_model.specs.Keeping.{rule_k}

@@ -1,10 +1,10 @@
 //! The calls of a guest's bus.
 
+ghost use Rattle.mb_port.specs.Pieces.{IsAligned};
 ghost use Rattle.vm_port.specs.Watched.{Watched, watched_bus};
-ghost use Rattle.vm_port.specs.Places.{HasPiece};
 
 use crate::port::GuestPort;
-use def_machine::{Reference, store_line, take_line};
+use def_machine::{Reference, store, store_line, take, take_line, takes_writes};
 use mb_port::{Fault, Flush, Mmu, MmuReg, Piece, Place, Port, Space};
 use mb_walk::Ram;
 
@@ -26,57 +26,66 @@ impl<R: Ram> Port for GuestPort<'_, R> {
 
     ghost still = { λ s. s };
 
-    ghost exists = { λ rest place. HasPiece place };
+    // what stands nowhere is read as 0, and takes no write
+    ghost exists = { λ rest place. IsAligned place.at place.len };
 
+    #[tactic(auto, using(def_machine::proofs::BusLemmas::places))]
     fn fetch(&mut self, space: Space, at: u32) -> Result<u16, Fault> {
         let r = Reference::fetching(space, at);
         let at = self.accessed(r).ok_or(r.refused(2, true))?;
-        let word = self.take(Place { at, len: 2 }).ok_or(r.refused(2, false))?;
+        let place = Place { at, len: 2 };
+        let word = take(&self.memory, self.devices, place).ok_or(r.refused(2, false))?;
         Ok(word as u16)
     }
 
+    #[tactic(auto, using(def_machine::proofs::BusLemmas::places))]
     fn read(&mut self, space: Space, piece: Piece) -> Result<u32, Fault> {
         let r = Reference::reading(space, piece.at);
         let at = self.accessed(r).ok_or(r.refused(piece.len, true))?;
-        self.take(Place { at, len: piece.len })
-            .ok_or(r.refused(piece.len, false))
+        let place = Place { at, len: piece.len };
+        let value = take(&self.memory, self.devices, place).ok_or(r.refused(piece.len, false))?;
+        Ok(value)
     }
 
+    #[tactic(auto, using(def_machine::proofs::BusLemmas::places))]
     fn write(&mut self, space: Space, piece: Piece, value: u32) -> Result<(), Fault> {
         let r = Reference::writing(space, piece.at);
         let at = self.accessed(r).ok_or(r.refused(piece.len, true))?;
-        self.store(Place { at, len: piece.len }, value)
-            .ok_or(r.refused(piece.len, false))
+        let place = Place { at, len: piece.len };
+        store(&mut self.memory, self.devices, place, value).ok_or(r.refused(piece.len, false))
     }
 
     fn read_line(&mut self, space: Space, at: u32) -> Result<[u32; 4], Fault> {
         let r = Reference::reading(space, at);
         let at = self.accessed(r).ok_or(r.refused(16, true))?;
-        take_line(self, at).ok_or(r.refused(16, false))
+        take_line(&self.memory, at).ok_or(r.refused(16, false))
     }
 
     fn write_line(&mut self, space: Space, at: u32, value: [u32; 4]) -> Result<(), Fault> {
         let r = Reference::writing(space, at);
         let at = self.accessed(r).ok_or(r.refused(16, true))?;
-        store_line(self, at, value).ok_or(r.refused(16, false))
+        store_line(&mut self.memory, at, value).ok_or(r.refused(16, false))
     }
 
+    #[tactic(auto, using(def_machine::proofs::BusLemmas::places))]
     fn probe(&mut self, space: Space, piece: Piece) -> Result<Place, Fault> {
         let r = Reference::writing(space, piece.at);
         let at = self.accessed(r).ok_or(r.refused(piece.len, true))?;
         let place = Place { at, len: piece.len };
-        if !self.takes_writes(place) {
+        if !takes_writes(&self.memory, self.devices, place) {
             return Err(r.refused(piece.len, false));
         }
         Ok(place)
     }
 
+    #[tactic(auto, using(def_machine::proofs::BusLemmas::places))]
     fn get(&mut self, place: Place) -> u32 {
-        self.take(place).unwrap_or(0)
+        take(&self.memory, self.devices, place).unwrap_or(0)
     }
 
+    #[tactic(auto, using(def_machine::proofs::BusLemmas::places))]
     fn put(&mut self, place: Place, value: u32) {
-        let _ = self.store(place, value);
+        let _ = store(&mut self.memory, self.devices, place, value);
     }
 
     fn mmu(&self) -> Mmu {

@@ -28,7 +28,7 @@ impl<R: Ram> GuestPort<'_, R> {
         ensures beyond { beyond_of self.new ≡ beyond_of self.old }
     {
         if k.is_covered(what) {
-            self.drop_page(k.space, k.page);
+            self.memory.drop_page(k.space, k.page);
         }
     }
 
@@ -52,7 +52,7 @@ impl<R: Ram> GuestPort<'_, R> {
         ensures beyond { beyond_of self.new ≡ beyond_of self.old }
     {
         match what {
-            Flush::All => self.clear(),
+            Flush::All => self.memory.clear(),
             Flush::AllLocal | Flush::Page(_, _) | Flush::PageLocal(_, _) => self.leave_all(what),
         }
     }
@@ -62,12 +62,12 @@ impl<R: Ram> GuestPort<'_, R> {
         ensures world { world_of self.new
             ≡ record (world_of self.old) { kept = flushed what (world_of self.old).kept } }
         ensures shadow { tables_of self.new ≡ shadow_after_flush what (world_of self.old).kept (tables_of self.old) }
-        ensures changed { self.new.changed ≡ true }
+        ensures changed { self.new.memory.changed ≡ true }
         ensures beyond { beyond_of self.new ≡ beyond_of self.old }
     {
         self.leave(what);
         self.tlb.flush(what);
-        self.changed = true;
+        self.memory.changed = true;
     }
 
     /// What PTEST drops of a page, and of the other half of it where pages have 8 KiB.
@@ -77,7 +77,7 @@ impl<R: Ram> GuestPort<'_, R> {
             ≡ record (world_of self.old) { kept = dropped_halves big space page (world_of self.old).kept } }
         ensures shadow { tables_of self.new
             ≡ shadow_after_drop big space page (world_of self.old).kept (tables_of self.old) }
-        ensures changed { self.new.changed ≡ true }
+        ensures changed { self.new.memory.changed ≡ true }
         ensures beyond { beyond_of self.new ≡ beyond_of self.old }
     {
         self.flushed(Flush::Page(space, page));
@@ -91,7 +91,7 @@ impl<R: Ram> GuestPort<'_, R> {
         ensures world { world_of self.new
             ≡ record (world_of self.old) { kept = after_movec rule_k which (world_of self.old).kept } }
         ensures shadow { tables_of self.new ≡ (if rule_k.forgets which then nothing else tables_of self.old) }
-        ensures changed { self.new.changed ≡ (if rule_k.forgets which then true else self.old.changed) }
+        ensures changed { self.new.memory.changed ≡ (if rule_k.forgets which then true else self.old.memory.changed) }
         ensures beyond { beyond_of self.new ≡ beyond_of self.old }
     {
         match which {
@@ -110,7 +110,7 @@ impl<R: Ram> GuestPort<'_, R> {
     pub(crate) fn set_register(&mut self, which: MmuReg, value: u32)
         ensures world { world_of self.new ≡ after_set_mmu rule_k which value (world_of self.old) }
         ensures shadow { tables_of self.new ≡ (if rule_k.forgets which then nothing else tables_of self.old) }
-        ensures changed { self.new.changed ≡ (if rule_k.forgets which then true else self.old.changed) }
+        ensures changed { self.new.memory.changed ≡ (if rule_k.forgets which then true else self.old.memory.changed) }
         ensures beyond { beyond_of self.new ≡ beyond_of self.old }
     {
         self.forget(which);
@@ -125,16 +125,16 @@ impl<R: Ram> GuestPort<'_, R> {
             ≡ shadow_after_test (has_big (world_of self.old).mmu)
             (matched false (world_of self.old).mmu space (page_number at)) space (page_number at)
             (world_of self.old).kept (tables_of self.old) }
-        ensures changed { self.new.changed ≡ true }
+        ensures changed { self.new.memory.changed ≡ true }
         ensures beyond { beyond_of self.new ≡ beyond_of self.old }
     {
-        self.changed = true;
+        self.memory.changed = true;
         if transparent(self.registers.dtt0, self.registers.dtt1, space, at).is_some() {
             return MMUSR_MATCHED;
         }
         let big = has_big_pages(self.registers);
         self.drop_halves(space, page_of(at), big);
         let root = root(self.registers, space);
-        search(self, root, space, at, write, big).status()
+        search(&mut self.memory, root, space, at, write, big).status()
     }
 }

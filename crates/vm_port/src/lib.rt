@@ -6,10 +6,10 @@
 
 mod bus_port;
 mod flushing;
-mod places;
+mod memory;
 mod port;
 mod refilling;
-mod tables;
 mod translating;
 
+pub use memory::GuestMemory;
 pub use port::GuestPort;

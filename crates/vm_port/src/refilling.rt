@@ -25,7 +25,13 @@ impl<R: Ram> GuestPort<'_, R> {
                     return None;
                 }
                 let root = root(self.registers, r.space);
-                let k = quiet_search(self, root, r.space, r.at, has_big_pages(self.registers))?;
+                let k = quiet_search(
+                    &self.memory,
+                    root,
+                    r.space,
+                    r.at,
+                    has_big_pages(self.registers),
+                )?;
                 through(&k, r)
             }
         }
@@ -35,9 +41,12 @@ impl<R: Ram> GuestPort<'_, R> {
     fn refills(&self, r: Reference, at: u32) -> bool
         ensures { result ≡ refills_seen (guest_of self.now) r (Some at) }
     {
-        self.is_in_ram(at)
+        self.memory.is_in_ram(at)
             && !self.is_split(r.space, r.at)
-            && !self.shadow.is_full_for(self.ram, r.space, page_of(r.at))
+            && !self
+                .memory
+                .shadow
+                .is_full_for(self.memory.ram, r.space, page_of(r.at))
     }
 
     /// Whether a read that the shadow denies is filled and put before its instruction begins again: on a page of RAM
@@ -48,7 +57,7 @@ impl<R: Ram> GuestPort<'_, R> {
         if r.write {
             return false;
         }
-        let _ = self.size();
+        let _ = self.memory.size();
         let _ = self.tlb.entry(0);
         match self.seen(r) {
             Some(at) => self.refills(r, at),

@@ -1,16 +1,16 @@
 //! Where a reference leads by the rule of guests, what is kept of it, and what becomes of the shadow.
 
-ghost use Rattle.std.specs.Prelude.{◌≡◌, ◌*◌, ◌<◌, ◌^◌, length, IfSome};
-ghost use Rattle.mb_model.specs.Keeping.{rule_k, entry_for};
+ghost use Rattle.std.specs.Prelude.{◌≡◌, ◌*◌, ◌<◌, ◌^◌, IfSome};
+ghost use Rattle.mb_model.specs.Keeping.{rule_k, displaced, entry_for, filled as kept_after, NamesPages};
 ghost use Rattle.mb_model.specs.Pages.{page_of as page_number, offset_of};
 ghost use Rattle.def_machine.specs.Access.{by_entry as by_kept_entry, searched, settled, translated, LeadsTo};
 ghost use Rattle.def_guests.specs.Bus.{gone_settled, without_kept, gone, put_entry_of, accessed};
-ghost use Rattle.def_guests.specs.Bus.{is_in_ram, is_split, is_writable};
+ghost use Rattle.def_guests.specs.Bus.{is_split, is_writable};
 ghost use Rattle.vm_port.specs.Watched.{changed_by_access, changed_by_fill, changed_by_put};
 
 use crate::port::GuestPort;
 use def_machine::{Reference, Settled, by_entry, root, through, untranslated};
-use mb_model::{PAGE_SIZE, has_big_pages, page_of};
+use mb_model::{Kept, PAGE_SIZE, has_big_pages, page_of};
 use mb_port::Space;
 use mb_walk::{Found, Ram, search, transparent};
 
@@ -40,6 +40,22 @@ impl<R: Ram> GuestPort<'_, R> {
         }
     }
 
+    /// Keeps what the search for a reference found. The shadow loses the entry of the translation that goes for it.
+    fn keep(&mut self, r: Reference, k: Kept)
+        requires { NamesPages k }
+        ensures world { world_of self.new
+            ≡ record (world_of self.old) { kept = kept_after rule_k r.code k (world_of self.old).kept } }
+        ensures shadow { tables_of self.new
+            ≡ without_kept (displaced rule_k.capacity k self.old.tlb.now) (tables_of self.old) }
+        ensures changed { self.new.memory.changed
+            ≡ changed_by_fill (displaced rule_k.capacity k self.old.tlb.now) self.old.memory.changed }
+        ensures beyond { beyond_of self.new ≡ beyond_of self.old }
+    {
+        if let Some(gone) = self.tlb.fill(k) {
+            self.memory.drop_page(gone.space, gone.page);
+        }
+    }
+
     /// Points 4 and 5: the tables are searched, and what is found is kept; the shadow loses the entry of what goes for
     /// it.
     fn searched(&mut self, r: Reference) -> Option<u32>
@@ -47,14 +63,14 @@ impl<R: Ram> GuestPort<'_, R> {
         ensures means { (result, world_of self.new) ≡ searched rule_k (world_of self.old) r }
         ensures shadow { tables_of self.new
             ≡ without_kept (gone_settled (world_of self.old) r Settled.Unsettled) (tables_of self.old) }
-        ensures changed { self.new.changed
-            ≡ changed_by_fill (gone_settled (world_of self.old) r Settled.Unsettled) self.old.changed }
+        ensures changed { self.new.memory.changed
+            ≡ changed_by_fill (gone_settled (world_of self.old) r Settled.Unsettled) self.old.memory.changed }
         ensures beyond { beyond_of self.new ≡ beyond_of self.old }
         ensures offset { IfSome result (λ at. offset_of at ≡ offset_of r.at) }
     {
         let root = root(self.registers, r.space);
         let big = has_big_pages(self.registers);
-        match search(self, root, r.space, r.at, r.write, big) {
+        match search(&mut self.memory, root, r.space, r.at, r.write, big) {
             Found::Entry(k, _) => {
                 self.keep(r, k);
                 through(&k, r)
@@ -69,7 +85,8 @@ impl<R: Ram> GuestPort<'_, R> {
     fn translated(&mut self, r: Reference) -> Option<u32>
         ensures means { (result, world_of self.new) ≡ translated rule_k r (world_of self.old) }
         ensures shadow { tables_of self.new ≡ without_kept (gone (world_of self.old) r) (tables_of self.old) }
-        ensures changed { self.new.changed ≡ changed_by_fill (gone (world_of self.old) r) self.old.changed }
+        ensures changed { self.new.memory.changed
+            ≡ changed_by_fill (gone (world_of self.old) r) self.old.memory.changed }
         ensures beyond { beyond_of self.new ≡ beyond_of self.old }
         ensures offset { IfSome result (λ at. offset_of at ≡ offset_of r.at) }
     {
@@ -78,14 +95,6 @@ impl<R: Ram> GuestPort<'_, R> {
             Settled::Refused => None,
             Settled::Unsettled => self.searched(r),
         }
-    }
-
-    /// Whether the page of a place is one of RAM.
-    #[tactic(auto, using(crate::proofs::Frames::lengths))]
-    pub(crate) fn is_in_ram(&self, at: u32) -> bool
-        ensures { result ≡ is_in_ram (length (world_of self.now).ram) at }
-    {
-        page_of(at) < page_of(self.size)
     }
 
     /// Whether exactly one of the two sides has a transparent register that matches the page.
@@ -112,17 +121,18 @@ impl<R: Ram> GuestPort<'_, R> {
     /// not allow it.
     fn put_entry(&mut self, r: Reference, place: Option<u32>)
         ensures shadow { tables_of self.new ≡ put_entry_of (world_of self.old) r (tables_of self.old) place }
-        ensures changed { self.new.changed
-            ≡ changed_by_put (world_of self.old) r (tables_of self.old) place self.old.changed }
+        ensures changed { self.new.memory.changed
+            ≡ changed_by_put (world_of self.old) r (tables_of self.old) place self.old.memory.changed }
         ensures world { world_of self.new ≡ world_of self.old }
         ensures beyond { beyond_of self.new ≡ beyond_of self.old }
     {
         let Some(at) = place else {
             return;
         };
-        if self.is_in_ram(at) && !self.is_split(r.space, r.at) && !self.allows(r) {
+        if self.memory.is_in_ram(at) && !self.is_split(r.space, r.at) && !self.memory.allows(r) {
             let writable = self.is_writable(r.space, page_of(r.at));
-            self.put_page(r.space, page_of(r.at), page_of(at), writable);
+            self.memory
+                .put_page(r.space, page_of(r.at), page_of(at), writable);
         }
     }
 
@@ -130,8 +140,8 @@ impl<R: Ram> GuestPort<'_, R> {
     pub(crate) fn accessed(&mut self, r: Reference) -> Option<u32>
         ensures means { (result, world_of self.new) ≡ translated rule_k r (world_of self.old) }
         ensures shadow { tables_of self.new ≡ accessed r (world_of self.old) (tables_of self.old) }
-        ensures changed { self.new.changed
-            ≡ changed_by_access r (world_of self.old) (tables_of self.old) self.old.changed }
+        ensures changed { self.new.memory.changed
+            ≡ changed_by_access r (world_of self.old) (tables_of self.old) self.old.memory.changed }
         ensures beyond { beyond_of self.new ≡ beyond_of self.old }
         ensures offset { IfSome result (λ at. offset_of at ≡ offset_of r.at) }
     {

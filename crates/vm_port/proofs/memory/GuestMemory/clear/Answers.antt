@@ -4,7 +4,7 @@ use Rattle.def_guests.specs.Seats.{own}
 use Rattle.vm_port.specs.Own.{IsPlaced}
 use Rattle.vm_port.proofs.Frames.{around}
 use Rattle.vm_port.proofs.Owns.{placed_nothing, own_nothing}
-use Rattle.vm_port.proofs.port.GuestPort.clear.Goals as goal
+use Rattle.vm_port.proofs.memory.GuestMemory.clear.Goals as goal
 
 pub invariant_of-self : goal.invariant_of-self
 invariant_of-self g c =
@@ -30,16 +30,16 @@ returns-clause-shadow g c =
     let is = e.shadow in
     ap (own m.base) is ∙ own_nothing m.base
 
-pub returns-clause-world : goal.returns-clause-world
-returns-clause-world g c =
+pub returns-clause-ram : goal.returns-clause-ram
+returns-clause-ram g c =
     let m = c.args.self.now in
     let e = c.clear.ensures in
     let (part, below, above) =
     around (g.R.Ram.bytes m.ram.now) (g.R.Ram.bytes c.clear.new.ram) m.base m.size m.shadow.now.area m.area e.outside.below e.outside.above in
-    rw part refl
+    part
 
-pub returns-clause-beyond : goal.returns-clause-beyond
-returns-clause-beyond g c =
+pub returns-clause-around : goal.returns-clause-around
+returns-clause-around g c =
     let m = c.args.self.now in
     let e = c.clear.ensures in
     let (part, below, above) =

@@ -1,4 +1,4 @@
-use Rattle.std.proofs.Common.{◌∙◌, ℕ, ◌+◌, ◌≤◌, List, ap, sym, arith, subst, refl}
+use Rattle.std.proofs.Common.{◌∙◌, ◌+◌, ◌≤◌, List, ℕ, ap, sym, arith, subst, refl}
 use Rattle.mb_walk.specs.Memory.{part}
 use Rattle.mb_walk.proofs.MemoryLemmas.{length-with_number}
 use Rattle.mb_walk.proofs.Parts.{length-part, part-with_number, take-with_number, drop-with_number}
@@ -6,8 +6,8 @@ use Rattle.vm_shadow.specs.Mapped.{shadowed}
 use Rattle.vm_shadow.specs.declared.area.TheConstants.{AREA_BYTES}
 use Rattle.def_guests.specs.Seats.{own}
 use Rattle.vm_port.specs.Own.{IsPlaced}
-use Rattle.vm_port.proofs.Frames.{maps_stay, shadow_stays}
-use Rattle.vm_port.proofs.port.GuestPort.set_number.Goals as goal
+use Rattle.vm_port.proofs.Frames.{beside_stays, maps_stay, shadow_stays}
+use Rattle.vm_port.proofs.memory.GuestMemoryRam.set_number.Goals as goal
 
 pub invariant_of-self : goal.invariant_of-self
 invariant_of-self g c =
@@ -15,7 +15,7 @@ invariant_of-self g c =
     let p = c.args.place in
     let ram = g.R.Ram.bytes m.ram.now in
     let s = m.shadow.now in
-    let e = c.set_number_in.ensures.bytes in
+    let e = c.set_number.ensures.bytes in
     let area = m.area in
     let count = length-part ram m.base m.size (omega (arith, m.inside)) in
     let inside = c.requires.inside in
@@ -32,38 +32,29 @@ invariant_of-self g c =
       placed = subst (IsPlaced m.base) (sym shadow) m.placed;
     }
 
-pub returns-clause-world : goal.returns-clause-world
-returns-clause-world g c =
+pub returns-clause-bytes : goal.returns-clause-bytes
+returns-clause-bytes g c =
     let m = c.args.self.now in
     let p = c.args.place in
     let ram = g.R.Ram.bytes m.ram.now in
     let count = length-part ram m.base m.size (omega (arith, m.inside)) in
     let inside = c.requires.inside in
-    let new = ap (λ (xs : List ℕ). part xs m.base m.size) c.set_number_in.ensures.bytes
-    ∙ part-with_number ram m.base m.size p.at p.len c.args.value (omega (arith, count, inside)) (omega (arith, m.inside)) in
-    rw new refl
+    ap (λ (xs : List ℕ). part xs m.base m.size) c.set_number.ensures.bytes
+    ∙ part-with_number ram m.base m.size p.at p.len c.args.value (omega (arith, count, inside)) (omega (arith, m.inside))
 
-pub returns-clause-shadow : goal.returns-clause-shadow
-returns-clause-shadow g c =
+pub returns-clause-rest : goal.returns-clause-rest
+returns-clause-rest g c =
     let m = c.args.self.now in
     let p = c.args.place in
     let ram = g.R.Ram.bytes m.ram.now in
     let s = m.shadow.now in
-    let area = m.area in
-    let count = length-part ram m.base m.size (omega (arith, m.inside)) in
-    let inside = c.requires.inside in
-    ap (λ (xs : List ℕ). own m.base (shadowed s xs)) c.set_number_in.ensures.bytes
-    ∙ ap (own m.base) (shadow_stays s ram (m.base + p.at) p.len c.args.value m.maps (omega arith))
-
-pub returns-clause-beyond : goal.returns-clause-beyond
-returns-clause-beyond g c =
-    let m = c.args.self.now in
-    let p = c.args.place in
-    let ram = g.R.Ram.bytes m.ram.now in
     let at = m.base + p.at in
+    let area = m.area in
     let len = length-part ram m.base m.size (omega (arith, m.inside)) in
     let inside = c.requires.inside in
     let count = length-with_number ram at p.len c.args.value (omega (arith, m.inside)) in
     let below = take-with_number ram m.base at p.len c.args.value (omega arith) (omega (arith, m.inside)) in
     let above = drop-with_number ram (m.base + m.size + AREA_BYTES) at p.len c.args.value (omega arith) (omega (arith, m.inside)) in
-    rw (c.set_number_in.ensures.rest, c.set_number_in.ensures.bytes, count, below, above) refl
+    beside_stays _ _ _ _ m.changed (rw (c.set_number.ensures.rest, c.set_number.ensures.bytes, count, below, above) refl)
+    (ap (λ (xs : List ℕ). own m.base (shadowed s xs)) c.set_number.ensures.bytes
+    ∙ ap (own m.base) (shadow_stays s ram at p.len c.args.value m.maps (omega arith)))

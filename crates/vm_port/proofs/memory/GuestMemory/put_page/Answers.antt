@@ -6,7 +6,7 @@ use Rattle.def_guests.specs.Seats.{own}
 use Rattle.vm_port.specs.Own.{IsPlaced}
 use Rattle.vm_port.proofs.Frames.{around}
 use Rattle.vm_port.proofs.Owns.{placed_filled, own_filled}
-use Rattle.vm_port.proofs.port.GuestPort.put_page.Goals as goal
+use Rattle.vm_port.proofs.memory.GuestMemory.put_page.Goals as goal
 
 pub invariant_of-self : goal.invariant_of-self
 invariant_of-self g c =
@@ -44,16 +44,16 @@ returns-clause-shadow g c =
     rw (sym c.page_of.ensures.number) e.shadow in
     ap (own m.base) is ∙ own_filled m.base before space page frame writable
 
-pub returns-clause-world : goal.returns-clause-world
-returns-clause-world g c =
+pub returns-clause-ram : goal.returns-clause-ram
+returns-clause-ram g c =
     let m = c.args.self.now in
     let e = c.fill.ensures in
     let (part, below, above) =
     around (g.R.Ram.bytes m.ram.now) (g.R.Ram.bytes c.fill.new.ram) m.base m.size m.shadow.now.area m.area e.outside.below e.outside.above in
-    rw part refl
+    part
 
-pub returns-clause-beyond : goal.returns-clause-beyond
-returns-clause-beyond g c =
+pub returns-clause-around : goal.returns-clause-around
+returns-clause-around g c =
     let m = c.args.self.now in
     let e = c.fill.ensures in
     let (part, below, above) =
