@@ -3,11 +3,13 @@
 //! A run goes from one entry of the script to the next, and between them looks at no script. What STOP holds the
 //! processor for it takes at once, up to where the timer may wake it.
 
-ghost use Rattle.std.specs.Prelude.{◌≡◌, ◌+◌, ◌^◌, ◌<◌, ◌≤◌, [], length, true};
+ghost use Rattle.std.specs.Prelude.{◌≡◌, ◌+◌, ◌^◌, ◌<◌, ◌≤◌, [], length, true, false};
 ghost use Rattle.mb_model.specs.Keeping.{rule_a};
+ghost use Rattle.mb_model.specs.Status.{space_of};
 ghost use Rattle.mb_devices.specs.Devices.{passed, IsNotDue};
 ghost use Rattle.def_machine.specs.Machine.{run_of, stepping, takes_steps};
 ghost use Rattle.def_runs.specs.Free.{IsFreeRun};
+ghost use Rattle.def_runs.specs.Native.{user_step};
 ghost use Rattle.mb_board.specs.Arrivals.{IsNext};
 ghost use Rattle.mb_board.specs.Calm.{IsCalm};
 ghost use Rattle.mb_board.specs.Idle.{IsHeld};
@@ -19,6 +21,7 @@ use crate::states::state_of;
 use def_processor::Finish;
 use mb_devices::Devices;
 use mb_model::RunState;
+use mb_port::Space;
 use mb_script::Script;
 use mb_step::{Nobody, rank};
 
@@ -108,8 +111,8 @@ impl Core {
 
     /// Takes calm steps that are carried out at once, at most so many, and does not count them. Gives how many they
     /// are.
-    #[inline(always)]
-    fn run_at_once(&mut self, limit: u32) -> u32
+    #[inline(never)]
+    fn run_at_once<const TRANSLATES: bool>(&mut self, limit: u32) -> u32
         requires calm { IsCalm self.old }
         ensures within { result ≤ limit }
         ensures means { record self.new { steps = self.old.steps + result } ≡ run_of rule_a [] result self.old }
@@ -120,12 +123,29 @@ impl Core {
         let space = self.cpu.space();
         let mut left = limit;
         while left > 0 {
-            if !self.step_at_once::<_, Calm>(space, &mut Nobody) {
+            if !self.step_at_once::<TRANSLATES, _, Calm>(space, &mut Nobody) {
                 break;
             }
             left -= 1;
         }
         limit - left
+    }
+
+    /// The same. No step of a stretch changes how the machine translates, so that is asked once.
+    #[inline(always)]
+    fn run_stretch(&mut self, limit: u32) -> u32
+        requires calm { IsCalm self.old }
+        ensures within { result ≤ limit }
+        ensures means { record self.new { steps = self.old.steps + result } ≡ run_of rule_a [] result self.old }
+        ensures calm { IsCalm self.new }
+        ensures uncounted { self.new.steps ≡ self.old.steps }
+        ensures ram { length self.new.world.ram ≡ length self.old.world.ram }
+    {
+        if self.bus.translator.is_direct() {
+            self.run_at_once::<false>(limit)
+        } else {
+            self.run_at_once::<true>(limit)
+        }
     }
 
     /// Takes calm steps that are carried out at once, at most so many less one, and one step more. Gives how many steps
@@ -144,7 +164,7 @@ impl Core {
             self.step_alone();
             return 1;
         }
-        let calm = self.run_at_once(limit - 1);
+        let calm = self.run_stretch(limit - 1);
         self.steps += calm;
         self.step_by_row();
         calm + 1

@@ -23,6 +23,7 @@ ghost use Rattle.mb_board.specs.Calm.{IsCalm};
 ghost use Rattle.mb_board.specs.State.{board_at_reset, machine_in, with_machine};
 
 use crate::bus::BoardBus;
+use crate::calm_bus::CalmBus;
 use crate::receiving::place_behind;
 use crate::states::{state_of, takes_steps};
 use def_processor::{Finish, StepEnd};
@@ -43,6 +44,9 @@ struct Bare;
 
 /// Where its calm steps are.
 pub(crate) struct Calm;
+
+/// Where they are over the bus of the micro-TLB.
+pub(crate) struct CalmByTlb;
 
 /// Where calm steps for a monitor are.
 pub(crate) struct ForMonitor;
@@ -192,7 +196,11 @@ impl Core {
     /// true, and the follower was told what it changed. Else nothing has changed. `space` is that of the processor's
     /// accesses.
     #[inline(always)]
-    pub(crate) fn step_at_once<F: Follower, Loop>(&mut self, space: Space, follower: &mut F) -> bool
+    pub(crate) fn step_at_once<const TRANSLATES: bool, F: Follower, Loop>(
+        &mut self,
+        space: Space,
+        follower: &mut F,
+    ) -> bool
         requires calm { IsCalm self.old }
         requires space { space ≡ space_of self.old.cpu }
         ensures means { result ≡ true → (Finish.Went, self.new) ≡ user_step self.old }
@@ -203,7 +211,8 @@ impl Core {
         ensures space { space_of self.new.cpu ≡ space_of self.old.cpu }
         ensures ram { length self.new.world.ram ≡ length self.old.world.ram }
     {
-        step_at_once::<_, _, Loop>(&self.decoder, space, &mut self.cpu, &mut self.bus, follower)
+        let mut bus = CalmBus::<TRANSLATES> { bus: &mut self.bus };
+        step_at_once::<_, _, Loop>(&self.decoder, space, &mut self.cpu, &mut bus, follower)
     }
 
     /// One step at which nothing arrives, and which is not counted, by no short form.

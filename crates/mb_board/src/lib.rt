@@ -11,6 +11,7 @@ mod board;
 mod board_port;
 mod bus;
 mod bus_port;
+mod calm_bus;
 mod following;
 mod lending;
 mod native;
@@ -19,7 +20,6 @@ mod receiving;
 mod running;
 mod spelling;
 mod states;
-mod tlb_bus;
 mod translating;
 
 pub use bare::{before_entry, before_tick};

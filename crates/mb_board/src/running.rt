@@ -2,7 +2,6 @@
 
 ghost use Rattle.std.specs.Prelude.{◌≡◌, ℕ, ◌+◌, ◌-◌, ◌^◌, ◌<◌, ◌≤◌, length, true, false};
 ghost use Rattle.mb_instr.specs.Registers.{is_supervisor, plain_of};
-ghost use Rattle.mb_short.specs.Changed.{Follows};
 ghost use Rattle.mb_model.specs.Status.{space_of};
 ghost use Rattle.def_runs.specs.Native.{EndsBy, NativeState, about_to_run, ended_by, goes_on, user_run, user_step};
 ghost use Rattle.def_runs.specs.Native.{with_retired, with_step};
@@ -15,13 +14,12 @@ use crate::board::{Board, Core, ForMonitor};
 use crate::following::Digits;
 use crate::native::{Native, gathered, with_end};
 use crate::spelling::spelling;
-use crate::tlb_bus::TlbBus;
 use def_processor::Finish;
 use def_runs::RunEnd;
 use mb_instr::Plain;
 use mb_model::RunState;
 use mb_port::Space;
-use mb_step::{Follower, step_at_once};
+use mb_step::Follower;
 
 impl Core {
     /// How a run in user mode ends with a step that ended so, or that it goes on.
@@ -76,23 +74,6 @@ impl Core {
         *ends = with_end(*ends, digits.spelling(self.cpu.plain()));
     }
 
-    /// What `step_at_once` does, where the bus finds its places by the micro-TLB. Any other step is left as it was.
-    #[inline(always)]
-    fn step_by_tlb<F: Follower>(&mut self, space: Space, follower: &mut F) -> bool
-        requires calm { IsCalm self.old }
-        requires space { space ≡ space_of self.old.cpu }
-        ensures means { result ≡ true → (Finish.Went, self.new) ≡ user_step self.old }
-        ensures follows { Follows F.follows follower.old (plain_of self.old.cpu.regs)
-            → Follows F.follows follower.new (plain_of self.new.cpu.regs) }
-        ensures undone { result ≡ false → self.new ≡ self.old }
-        ensures calm { IsCalm self.new }
-        ensures space { space_of self.new.cpu ≡ space_of self.old.cpu }
-        ensures ram { length self.new.world.ram ≡ length self.old.world.ram }
-    {
-        let mut bus = TlbBus { bus: &mut self.bus };
-        step_at_once::<_, _, ForMonitor>(&self.decoder, space, &mut self.cpu, &mut bus, follower)
-    }
-
     /// One more step of a run of a calm machine in user mode, where its instruction is carried out at once: then the
     /// answer is true, and its registers are an end more. Else nothing has changed.
     #[inline(always)]
@@ -113,7 +94,7 @@ impl Core {
         ensures digits { digits.new.sum ≡ without_flow (plain_of self.new.cpu.regs) }
         ensures ram { length self.new.world.ram ≡ length self.old.world.ram }
     {
-        if !self.step_by_tlb(Space::User, digits) {
+        if !self.step_at_once::<true, _, ForMonitor>(Space::User, digits) {
             return false;
         }
         *ends = with_end(*ends, digits.spelling(self.cpu.plain()));

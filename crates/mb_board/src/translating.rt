@@ -80,9 +80,22 @@ impl BoardBus {
         Some(at)
     }
 
-    /// The place in RAM of so many bytes that a reference is known to lead to. `None` says nothing.
+    /// The same where nothing is translated.
     #[inline(always)]
     #[tactic(auto, unfolding(def_machine::specs::Access::translated))]
+    pub(crate) fn found_directly(&self, r: Reference, len: u8) -> Option<u32>
+        requires access { IsAccess r }
+        requires piece { IsPiece (record { at = r.at; len = len }) }
+        ensures leads { IfSome result (λ at. translated rule_a r self.now ≡ (Some at, self.now)) }
+        ensures inside { IfSome result (λ at. in_ram (length self.now.ram) at len ≡ true) }
+        ensures aligned { IfSome result (λ at. IsAligned at len) }
+    {
+        let at = self.translator.place_directly(r, len)?;
+        Some(at)
+    }
+
+    /// The place in RAM of so many bytes that a reference is known to lead to. `None` says nothing.
+    #[inline(always)]
     pub fn found_at_once(&self, r: Reference, len: u8) -> Option<u32>
         requires access { IsAccess r }
         requires piece { IsPiece (record { at = r.at; len = len }) }
@@ -91,12 +104,10 @@ impl BoardBus {
         ensures aligned { IfSome result (λ at. IsAligned at len) }
     {
         if self.translator.is_direct() {
-            if u64::from(r.at) + u64::from(len) > self.ram.bytes.len() as u64 {
-                return None;
-            }
-            return Some(r.at);
+            self.found_directly(r, len)
+        } else {
+            self.found_in_tlb(r, len)
         }
-        self.found_in_tlb(r, len)
     }
 
     /// What PTEST drops of a page, and of the other half of it where pages have 8 KiB.

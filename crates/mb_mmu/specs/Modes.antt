@@ -1,5 +1,5 @@
 -- How a memory management unit translates.
-use Rattle.std.specs.Prelude.{ℕ, ◌/◌, ◌%◌, ◌==◌, ◌||◌, ◌&&◌, Bool, true, false, not}
+use Rattle.std.specs.Prelude.{ℕ, ◌/◌, ◌%◌, ◌==◌, ◌||◌, ◌&&◌, Bool, true, false, not, if◌then◌else◌}
 use Rattle.mb_port.specs.declared.types.Mmu.{Mmu}
 use Rattle.mb_port.specs.declared.translation.TheConstants.{E, S}
 use Rattle.mb_port.specs.Bits.{has_bit}
@@ -18,6 +18,10 @@ has_transparent mmu = is_enabled mmu.itt0 || is_enabled mmu.itt1 || is_enabled m
 -- translation is off, and so is each transparent register
 abbrev pub is_off : Mmu → Bool
 is_off mmu = not (has_transparent mmu || is_translating mmu)
+
+-- the bytes from address 0 on in which each reference leads to its own address: those of RAM, if all that is off
+abbrev pub direct_bytes : Mmu → ℕ → ℕ
+direct_bytes mmu ram = if is_off mmu then ram else 0
 
 -- a register that is on serves user space: its S field is not the supervisor's alone
 abbrev pub serves_user : ℕ → Bool

@@ -1,8 +1,8 @@
 //! How the memory management unit translates, in short.
 
 ghost use Rattle.std.specs.Prelude.{◌≡◌};
-ghost use Rattle.mb_mmu.specs.Modes.{has_transparent, has_user, is_enabled as has_enabled, mode_of as translates};
-ghost use Rattle.mb_mmu.specs.Modes.{serves_user};
+ghost use Rattle.mb_mmu.specs.Modes.{direct_bytes, has_transparent, has_user, is_enabled as has_enabled};
+ghost use Rattle.mb_mmu.specs.Modes.{mode_of as translates, serves_user};
 
 use mb_port::translation::{E, S};
 use mb_port::{Mmu, long_has};
@@ -57,5 +57,16 @@ pub fn mode_of(mmu: &Mmu) -> Mode
         (true, false, true) => Mode::UserTables,
         (false, _, true) => Mode::Tables,
         (false, _, false) => Mode::Direct,
+    }
+}
+
+/// The bytes from address 0 on in which each reference leads to its own address, where RAM has so many.
+#[tactic(auto, using(crate::proofs::Modal::modes))]
+pub fn direct_bytes(mmu: &Mmu, ram: u32) -> u32
+    ensures { result ≡ direct_bytes mmu.now ram }
+{
+    match mode_of(mmu) {
+        Mode::Direct => ram,
+        Mode::Tables | Mode::UserTables | Mode::Registers => 0,
     }
 }

@@ -1,6 +1,6 @@
 //! Where a reference leads, as far as no table is searched.
 
-ghost use Rattle.std.specs.Prelude.{◌≡◌, ◌/◌, ◌<◌, IfOk, IfSome, true, false};
+ghost use Rattle.std.specs.Prelude.{◌≡◌, ◌+◌, ◌/◌, ◌<◌, ◌≤◌, IfOk, IfSome, true, false};
 ghost use Rattle.mb_port.specs.Flushes.{NamesPage};
 ghost use Rattle.mb_port.specs.Registers.{with_mmu_register};
 ghost use Rattle.mb_model.specs.Keeping.{NamesPages, entry_for, filled, flushed, rule_a};
@@ -14,7 +14,7 @@ ghost use Rattle.mb_mmu.specs.State.{at_reset, settled_by};
 ghost use Rattle.mb_mmu.specs.Sound.{IsAccess, LeadsIntoRam};
 
 use crate::micro_tlb::MicroTlb;
-use crate::modes::{Mode, mode_of};
+use crate::modes::{Mode, direct_bytes, mode_of};
 use def_machine::{MMU_AT_RESET, Reference, Settled, by_entry, untranslated};
 use mb_atc::Atc;
 use mb_model::{Kept, PAGE_SIZE, page_of};
@@ -29,6 +29,8 @@ pub struct Translator {
     mmu: Mmu,
     /// What the registers come to, so that an access need not look at each.
     mode: Mode,
+    /// The bytes from address 0 on in which each reference leads to its own address.
+    direct: u32,
     kept: Atc,
     /// Where accesses led to last, so that most need not look at what is kept. A register that is written and a flush
     /// empty it, and a fill takes from it what stands where its class does.
@@ -42,7 +44,7 @@ pub struct Translator {
 impl Model for Translator {
     ghost use Rattle.std.specs.Prelude.{◌≡◌, false};
     ghost use Rattle.mb_mmu.specs.State.{Translation};
-    ghost use Rattle.mb_mmu.specs.Modes.{mode_of};
+    ghost use Rattle.mb_mmu.specs.Modes.{direct_bytes, mode_of};
     ghost use Rattle.mb_mmu.specs.MicroTlb.{nothing};
     ghost use Rattle.mb_mmu.specs.Sound.{IsSound};
 
@@ -50,7 +52,8 @@ impl Model for Translator {
 
     ghost view = { λ t. record { mmu = t.mmu; kept = t.kept; ram = t.ram } };
 
-    ghost invariant = { λ t. (t.mode ≡ mode_of t.mmu) × (t.remembers ≡ false → t.recent ≡ nothing)
+    ghost invariant = { λ t. (t.mode ≡ mode_of t.mmu) × (t.direct ≡ direct_bytes t.mmu t.ram)
+        × (t.remembers ≡ false → t.recent ≡ nothing)
         × IsSound (record { mmu = t.mmu; kept = t.kept; ram = t.ram }) t.recent };
 }
 
@@ -76,6 +79,7 @@ impl Translator {
         Ok(Translator {
             mmu: MMU_AT_RESET,
             mode: Mode::Direct,
+            direct: ram,
             kept,
             recent,
             remembers: false,
@@ -89,6 +93,7 @@ impl Translator {
     {
         self.mmu = MMU_AT_RESET;
         self.mode = Mode::Direct;
+        self.direct = self.ram;
         self.kept.clear();
         forget(&mut self.recent, &mut self.remembers);
     }
@@ -106,6 +111,7 @@ impl Translator {
     {
         self.mmu.set(which, value);
         self.mode = mode_of(&self.mmu);
+        self.direct = direct_bytes(&self.mmu, self.ram);
         forget(&mut self.recent, &mut self.remembers);
     }
 
@@ -218,9 +224,23 @@ impl Translator {
     #[tactic(auto, using(crate::proofs::Modal::modes))]
     pub fn is_direct(&self) -> bool
         ensures off { result ≡ is_off self.now.mmu }
-        ensures direct { result ≡ true → (r : Reference) → settled_by self.now r ≡ To r.at }
     {
         matches!(self.mode, Mode::Direct)
+    }
+
+    /// Where so many bytes lie that a reference leads to, which is in RAM, if translation and each transparent register
+    /// are off. `None` says nothing.
+    #[inline(always)]
+    pub fn place_directly(&self, r: Reference, len: u8) -> Option<u32>
+        requires some { 0 < len }
+        ensures leads { IfSome result (λ at. settled_by self.now r ≡ To at) }
+        ensures inside { IfSome result (λ at. at + len ≤ self.now.ram) }
+        ensures own { IfSome result (λ at. at ≡ r.at) }
+    {
+        if u64::from(r.at) + u64::from(len) > u64::from(self.direct) {
+            return None;
+        }
+        Some(r.at)
     }
 
     /// Where an access leads at once, which is in RAM. `None` says nothing.

@@ -9,7 +9,7 @@ use Rattle.mb_board.proofs.board.Core.run_at_once.Goals.{else-loop-left-test, th
 use Rattle.mb_board.proofs.board.Core.run_at_once.Goals as goal
 
 pub loop-left-init : goal.loop-left-init
-loop-left-init c =
+loop-left-init g c =
     let m = c.args.self.now in
     let none = c.args.limit - c.args.limit in record {
       run = run_of-zero rule_a [] none m (omega arith) ∙ ap (λ (n : ℕ). counted n m) (let e : m.steps ≡ m.steps + none = omega arith in e);
@@ -21,7 +21,7 @@ loop-left-init c =
     }
 
 pub loop-left-preserved : goal.loop-left-preserved
-loop-left-preserved c =
+loop-left-preserved g c =
     let from = c.args.self.now in
     let left = c.loop-left.left in
     let k = c.args.limit - left in
@@ -41,7 +41,7 @@ loop-left-preserved c =
     }
 
 pub returns-clause-means : goal.returns-clause-means
-returns-clause-means c =
+returns-clause-means g c =
     let at = counted (c.args.self.now.steps + (c.args.limit - c.loop-left.left)) in
     elim c.loop-left-test.branch [
       | else-loop-left-test w ↦ ap at w.self-is ∙ sym c.loop-left.invariant.run

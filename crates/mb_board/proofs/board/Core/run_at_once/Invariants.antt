@@ -7,7 +7,7 @@ use Rattle.mb_board.proofs.Calm.{counted}
 use Rattle.mb_board.proofs.board.Core.run_at_once.Given as goal
 
 abbrev pub invariant-loop-left : goal.invariant-loop-left
-invariant-loop-left l = record {
+invariant-loop-left g l = record {
   run : run_of rule_a [] (l.limit - l.left) l.initial.self ≡ counted (l.initial.self.steps + (l.limit - l.left)) l.self;
   calm : IsCalm l.self;
   space : l.space ≡ space_of l.self.cpu;
@@ -17,4 +17,4 @@ invariant-loop-left l = record {
 }
 
 abbrev pub decreases-loop-left : goal.decreases-loop-left
-decreases-loop-left l = l.left
+decreases-loop-left g l = l.left

@@ -13,10 +13,10 @@ returns-then-not-is_calm-clause-means c =
 
 pub returns-clause-means : goal.returns-clause-means
 returns-clause-means c =
-    let calm = c.run_at_once-calm.result in
-    let after = c.run_at_once-calm.new.self in
+    let calm = c.run_stretch-calm.result in
+    let after = c.run_stretch-calm.new.self in
     let m = counted (c.self.inside.steps + calm) (the_view c.self.inside) in
     let so_far = ap (λ (x : Machine). counted (x.steps + calm) x) c.self.view_is
-    ∙ ap (λ (n : ℕ). counted (n + calm) after) c.run_at_once-calm.ensures.uncounted ∙ c.run_at_once-calm.ensures.means in
+    ∙ ap (λ (n : ℕ). counted (n + calm) after) c.run_stretch-calm.ensures.uncounted ∙ c.run_stretch-calm.ensures.means in
     one_more rule_a [] c.args.self.now m _ c.step_by_row.result calm so_far
-    (ap (λ (x : Machine). takes_steps x.state) c.self.view_is ∙ ap takes_steps c.run_at_once-calm.ensures.calm.running) c.step_by_row.ensures.means
+    (ap (λ (x : Machine). takes_steps x.state) c.self.view_is ∙ ap takes_steps c.run_stretch-calm.ensures.calm.running) c.step_by_row.ensures.means

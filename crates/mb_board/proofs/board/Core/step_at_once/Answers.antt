@@ -21,7 +21,7 @@ step_at_once-requires-clause-untraced g c =
 pub returns-clause-means : goal.returns-clause-means
 returns-clause-means g c =
     let m = the_view c.self.inside in
-    let after : Machine = record { cpu = c.step_at_once.new.processor; world = c.step_at_once.new.port; steps = m.steps; state = m.state } in
+    let after : Machine = record { cpu = c.step_at_once.new.processor; world = c.step_at_once.new.port.bus.now; steps = m.steps; state = m.state } in
     let leaves : LeavesCalm m after = record { devices = c.step_at_once.ensures.still; mode = c.step_at_once.ensures.mode; state = refl } in
     λ is.
     calm_step m after (subst IsCalm (sym c.self.view_is) c.requires.calm) leaves refl (c.step_at_once.ensures.means is) ∙ ap user_step c.self.view_is
@@ -29,7 +29,7 @@ returns-clause-means g c =
 pub returns-clause-calm : goal.returns-clause-calm
 returns-clause-calm g c =
     let m = the_view c.self.inside in
-    let after : Machine = record { cpu = c.step_at_once.new.processor; world = c.step_at_once.new.port; steps = m.steps; state = m.state } in
+    let after : Machine = record { cpu = c.step_at_once.new.processor; world = c.step_at_once.new.port.bus.now; steps = m.steps; state = m.state } in
     calm_on m after (subst IsCalm (sym c.self.view_is) c.requires.calm)
     (record { devices = c.step_at_once.ensures.still; mode = c.step_at_once.ensures.mode; state = refl })
 

@@ -20,6 +20,7 @@ invariant_of-self c =
     let true_of = page_true t c.args.r c.args.place there here leads inside in
     let entry = entry_to c.args.r.at c.args.place in (
       c.self.invariant.0,
+      c.self.invariant.1,
       λ is. absurd (let z : ⊥ = cc in z),
-      rw c.set.ensures (with_entry-sound t c.self.inside.recent c.args.r entry c.self.invariant.2 c.requires.access true_of),
+      rw c.set.ensures (with_entry-sound t c.self.inside.recent c.args.r entry c.self.invariant.3 c.requires.access true_of),
     )

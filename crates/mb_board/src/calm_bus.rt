@@ -1,26 +1,47 @@
-//! The bus of a machine that translates, as its quick calls know it.
+//! The bus of calm steps, as its quick calls know it.
 
-ghost use Rattle.std.specs.Prelude.{ℕ, length};
+ghost use Rattle.std.specs.Prelude.{◌≡◌, ℕ, length, true, IfSome, Some};
 ghost use Rattle.std.specs.Borrow.{GName};
-ghost use Rattle.mb_port.specs.Pieces.{IsAligned};
+ghost use Rattle.mb_port.specs.Pieces.{IsAligned, IsPiece};
 ghost use Rattle.mb_model.specs.Keeping.{rule_a};
 ghost use Rattle.mb_devices.specs.Devices.{DeviceState};
+ghost use Rattle.def_machine.specs.Access.{translated};
 ghost use Rattle.def_machine.specs.Bus.{bus_of};
+ghost use Rattle.def_machine.specs.Places.{in_ram};
 ghost use Rattle.def_machine.specs.World.{World};
+ghost use Rattle.mb_mmu.specs.Sound.{IsAccess};
 
 use crate::bus::BoardBus;
 use def_machine::Reference;
 use mb_port::{Fault, Flush, Mmu, MmuReg, Piece, Place, Port, Space};
 use mb_walk::Ram;
 
-/// A board's bus, whose quick calls do not ask whether translation is off: they find a place by the micro-TLB, or not
-/// at all. So a machine that translates pays for no question at each access; any other gets no answer by them.
+/// A board's bus, whose quick calls do not ask whether the machine translates: they find a place by the micro-TLB, or
+/// take each address for its own place, or do not find it at all.
 #[derive(Drop)]
-pub(crate) struct TlbBus<'a> {
+pub(crate) struct CalmBus<'a, const TRANSLATES: bool> {
     pub(crate) bus: &'a mut BoardBus,
 }
 
-impl Port for TlbBus<'_> {
+impl<const TRANSLATES: bool> CalmBus<'_, TRANSLATES> {
+    /// The place in RAM of so many bytes that a reference is known to lead to. `None` says nothing.
+    #[inline(always)]
+    fn found(&self, r: Reference, len: u8) -> Option<u32>
+        requires access { IsAccess r }
+        requires piece { IsPiece (record { at = r.at; len = len }) }
+        ensures leads { IfSome result (λ at. translated rule_a r self.now.bus.now ≡ (Some at, self.now.bus.now)) }
+        ensures inside { IfSome result (λ at. in_ram (length self.now.bus.now.ram) at len ≡ true) }
+        ensures aligned { IfSome result (λ at. IsAligned at len) }
+    {
+        if TRANSLATES {
+            self.bus.found_in_tlb(r, len)
+        } else {
+            self.bus.found_directly(r, len)
+        }
+    }
+}
+
+impl<const TRANSLATES: bool> Port for CalmBus<'_, TRANSLATES> {
     ghost World = { World };
 
     ghost world = { λ b. b.bus.now };
@@ -53,24 +74,19 @@ impl Port for TlbBus<'_> {
 
     #[inline(always)]
     fn quick_fetch(&self, space: Space, at: u32) -> Option<u16> {
-        let at = self.bus.found_in_tlb(Reference::fetching(space, at), 2)?;
+        let at = self.found(Reference::fetching(space, at), 2)?;
         Some(self.bus.number(Place { at, len: 2 }) as u16)
     }
 
     #[inline(always)]
     fn quick_read(&self, space: Space, piece: Piece) -> Option<u32> {
-        let at = self
-            .bus
-            .found_in_tlb(Reference::reading(space, piece.at), piece.len)?;
+        let at = self.found(Reference::reading(space, piece.at), piece.len)?;
         Some(self.bus.number(Place { at, len: piece.len }))
     }
 
     #[inline(always)]
     fn quick_write(&mut self, space: Space, piece: Piece, value: u32) -> bool {
-        let Some(at) = self
-            .bus
-            .found_in_tlb(Reference::writing(space, piece.at), piece.len)
-        else {
+        let Some(at) = self.found(Reference::writing(space, piece.at), piece.len) else {
             return false;
         };
         self.bus.set_number(Place { at, len: piece.len }, value);
