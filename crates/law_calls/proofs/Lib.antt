@@ -1,3 +1,5 @@
 pub mod Few
+pub mod FiveBits
+pub mod Keeping
 pub mod Operands
 pub mod Rows

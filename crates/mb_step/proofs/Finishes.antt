@@ -1,9 +1,10 @@
 -- The finish of an instruction whose function works on the registers in place.
-use Rattle.std.proofs.Common.{◌≡◌, ◌∙◌, ℕ, ◌<◌, length, refl, ap, sym, Bool, Result, Ok, Err}
+use Rattle.std.proofs.Common.{◌≡◌, ◌∙◌, ℕ, ◌<◌, length, refl, ap, subst, sym, Bool, Result, Ok, Err, IfOk}
 use Rattle.mb_port.specs.Routine.{Bus, run}
+use Rattle.mb_port.specs.declared.types.Space.{Space}
 use Rattle.mb_instr.specs.declared.instruction.Instr.{Instr}
 use Rattle.mb_instr.specs.declared.registers.Plain.{Plain}
-use Rattle.std.specs.Prelude.{◌%◌, true, false}
+use Rattle.std.specs.Prelude.{true, false}
 use Rattle.mb_instr.specs.Registers.{plain_of}
 use Rattle.mb_model.specs.declared.processor.Cpu.{Cpu}
 use Rattle.mb_model.specs.Status.{space_of}
@@ -19,7 +20,9 @@ use Rattle.def_processor.specs.declared.Finish.TheVariants as finish
 use Rattle.def_processor.specs.Step.{finish_instruction_of, execute_unprivileged_of}
 use Rattle.mb_operands.specs.declared.endings.Undone.{Undone}
 use Rattle.mb_operands.specs.Endings.{with_end, end_of, performed_in_place}
-use Rattle.mb_step.proofs.Registers.{same_space, same_due, registers_low, registers_over, registers_same, plain_again}
+use Rattle.law_calls.specs.Codes.{LeavesFiveCodes}
+use Rattle.law_calls.proofs.Rows.{perform_codes}
+use Rattle.mb_step.proofs.Registers.{same_space, same_due, registers_over, registers_same, plain_again}
 
 -- after a refused read the registers are those before the instruction, whatever its function left
 finish_left : (i : Instr) (done : Result Bool Undone) (end : Ended) (cpu : Cpu) (before now : Plain)
@@ -65,24 +68,18 @@ pub trace_over : {S : Type 0} (bus : Bus S) (address : ℕ) (cpu set left : Cpu)
 trace_over bus address cpu set left now back s t f k h e n =
     ap (λ (c : Cpu). run bus (trace_of address c) s) (sym k) ∙ h ∙ ap (λ (c : Cpu). ended f c t) (sym (registers_same back left e n))
 
--- the registers with the five condition codes alone
-abbrev five : Plain → Plain
-five p = record p { ccr = p.ccr % 32 }
-
--- what is traced has the five condition codes alone
+-- an instruction that was carried out is traced, or not
 pub left_traced : {S : Type 0} (bus : Bus S) (flow due : Bool) (at : ℕ) (cpu : Cpu) (now : Plain) (s : S) (stepped : Stepped × S)
-    → due ≡ is_due cpu.regs.sr flow → due ≡ true → run bus (trace_of at (with_registers (five now) cpu)) s ≡ stepped
+    → due ≡ is_due cpu.regs.sr flow → due ≡ true → run bus (trace_of at (with_registers now cpu)) s ≡ stepped
     → run bus (trace_if_of finish.Went (is_due cpu.regs.sr flow) at (with_registers now cpu)) s ≡ stepped
 left_traced bus flow due at cpu now s stepped asked traced h =
-    ap (λ (b : Bool). run bus (trace_if_of finish.Went b at (with_registers now cpu)) s) (sym asked ∙ traced)
-    ∙ ap (λ (c : Cpu). run bus (trace_of at c) s) (sym (registers_low now cpu)) ∙ h
+    ap (λ (b : Bool). run bus (trace_if_of finish.Went b at (with_registers now cpu)) s) (sym asked ∙ traced) ∙ h
 
 pub left_untraced : {S : Type 0} (bus : Bus S) (flow due : Bool) (at : ℕ) (cpu : Cpu) (now : Plain) (s : S)
     → due ≡ is_due cpu.regs.sr flow → due ≡ false
-    → run bus (trace_if_of finish.Went (is_due cpu.regs.sr flow) at (with_registers now cpu)) s ≡ ((finish.Went, with_registers (five now) cpu), s)
+    → run bus (trace_if_of finish.Went (is_due cpu.regs.sr flow) at (with_registers now cpu)) s ≡ ((finish.Went, with_registers now cpu), s)
 left_untraced bus flow due at cpu now s asked untraced =
     ap (λ (b : Bool). run bus (trace_if_of finish.Went b at (with_registers now cpu)) s) (sym asked ∙ untraced)
-    ∙ ap (λ (c : Cpu). ((finish.Went, c), s)) (sym (registers_low now cpu))
 
 -- an instruction that was carried out is finished so
 pub done_left : {S : Type 0} (bus : Bus S) (i : Instr) (done : Result Bool Undone) (end : Ended) (flow : Bool) (cpu : Cpu) (before now : Plain) (s : S)
@@ -92,6 +89,14 @@ pub done_left : {S : Type 0} (bus : Bus S) (i : Instr) (done : Result Bool Undon
 done_left bus i done end flow cpu before now s stepped is h =
     ap (λ (d : Result Bool Undone). run bus (finish_instruction_of i (end_of (with_end d end)) (with_registers before cpu) (with_registers now cpu)) s) is
     ∙ ap (λ (b : Bool). run bus (trace_if_of finish.Went b before.pc (with_registers now cpu)) s) (sym (same_due before cpu flow)) ∙ h
+
+-- one that was carried out has left five condition codes
+pub performed_codes : {S : Type 0} (bus : Bus S) (i : Instr) (at : ℕ) (space : Space) (p now : Plain) (s t : S) (done : Result Bool Undone) (end : Ended)
+    → p.ccr < 32 → run bus (perform_of i at space p) s ≡ (let r : Performed × S = (performed_in_place done end p now, t) in r)
+    → IfOk done (λ flow. now.ccr < 32)
+performed_codes bus i at space p now s t (Ok flow) end less h =
+    subst (λ (r : Performed × _). LeavesFiveCodes r.0) h (perform_codes bus space i at p s less)
+performed_codes bus i at space p now s t (Err undone) end less h = tt
 
 -- An instruction that works on the registers apart: `value` is the processor put together.
 pub unprivileged_apart : {S : Type 0} (bus : Bus S) (i : Instr) (n : ℕ) (cpu value : Cpu) (s t : S) (done : Result Bool Undone) (end : Ended)

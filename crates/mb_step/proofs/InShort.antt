@@ -1,5 +1,7 @@
 -- An instruction that was carried out by its short form is the step's.
-use Rattle.std.proofs.Common.{◌≡◌, ◌∙◌, ℕ, ◌<◌, ◌+◌, ◌/◌, ◌%◌, ◌^◌, length, refl, ap, sym, subst, Bool, false, List, Option, Some, None, IfSome, Ok, inl, inr}
+use Rattle.std.proofs.Common.{◌≡◌, ◌∙◌, ℕ, ◌<◌, ◌+◌, ◌/◌, ◌%◌, ◌^◌, length, refl, ap, sym, subst, Bool, true, false, List, Option, Some, None}
+use Rattle.std.proofs.Common.{IfSome, IfNone, Ok, inl, inr}
+use Rattle.std.specs.Prelude.{is_some}
 use Rattle.mb_port.specs.Routine.{Bus, Call, run}
 use Rattle.mb_port.specs.declared.types.Space.{Space}
 use Rattle.mb_instr.specs.declared.instruction.Instr.{Instr}
@@ -10,7 +12,7 @@ use Rattle.mb_instr.specs.Registers.{plain_of}
 use Rattle.mb_model.specs.declared.processor.Cpu.{Cpu}
 use Rattle.mb_model.specs.Status.{space_of}
 use Rattle.mb_decode.specs.declared.front.Decoded.{Decoded}
-use Rattle.def_instructions.specs.Attempt.{by_decoded}
+use Rattle.def_instructions.specs.Attempt.{by_decoded, past}
 use Rattle.def_instructions.specs.Ends.{Performed, closed}
 use Rattle.def_processor.specs.SystemEnds.{with_registers}
 use Rattle.def_processor.specs.Raise.{Stepped, is_due, trace_if_of}
@@ -21,9 +23,11 @@ use Rattle.mb_table.specs.FirstWords.{alone}
 use Rattle.mb_table.specs.Short.{meaning, meaning_with, meaning_with_long, IsAlone, IsWith, IsWithLong, IsShort}
 use Rattle.mb_short.specs.Changed.{Follows}
 use Rattle.mb_short.specs.Taken.{Goes, GoesBy, LongComes, IsDone}
+use Rattle.law_calls.specs.Codes.{LeavesFiveCodes}
+use Rattle.law_calls.proofs.Rows.{perform_codes}
 use Rattle.mb_step.specs.Fetching.{behind, found_executed}
 use Rattle.mb_step.proofs.Fetches.{is_whole, two_words, three_words}
-use Rattle.mb_step.proofs.Registers.{same_space, same_due, same_counter, registers_over, registers_low, plain_again}
+use Rattle.mb_step.proofs.Registers.{same_space, same_due, same_counter, registers_over, plain_again}
 
 -- what follows an instruction that went
 abbrev pub after : {S : Type 0} → Bus S → Cpu → Bool → Plain → S → Stepped × S
@@ -94,19 +98,38 @@ went_apart bus cpu value before now first short flow s t stepped k len less righ
     ∙ ap (λ (c : Cpu). run bus (trace_if_of finish.Went (is_due cpu.regs.sr flow) before.pc c) t) (registers_over before now cpu)
     ∙ h
 
+-- what was carried out has left five condition codes
+goes_codes : {S : Type 0} (bus : Bus S) (m : Option Instr) (n : ℕ) (space : Space) (p q : Plain) (s t : S) (flow : Bool) → p.ccr < 32
+    → GoesBy bus m n space p s flow q t → q.ccr < 32
+goes_codes bus None n space p q s t flow less h = absurd h
+goes_codes bus (Some i) n space p q s t flow less h =
+    subst (λ (r : Performed × _). LeavesFiveCodes r.0) h (perform_codes bus space i p.pc (past n p) s less)
+
+pub done_codes : {S : Type 0} (bus : Bus S) (short : Short) (space : Space) (p q : Plain) (s t : S) (flow : Bool) → p.ccr < 32
+    → IsDone bus short space p s flow q t → q.ccr < 32
+done_codes bus short space p q s t flow less (inl h) = goes_codes bus (meaning short) 1 space p q s t flow less h
+done_codes bus short space p q s t flow less (inr (inl (word, range, came, h))) =
+    goes_codes bus (meaning_with word short) 2 space p q s t flow less h
+done_codes bus short space p q s t flow less (inr (inr (value, range, came, h))) =
+    goes_codes bus (meaning_with_long value short) 3 space p q s t flow less h
+
+-- and what was not has left all as it was
+pub codes_after : {S : Type 0} (bus : Bus S) (short : Short) (space : Space) (p q : Plain) (s t : S) (went : Option Bool) → p.ccr < 32
+    → IfSome went (λ flow. IsDone bus short space p s flow q t) → IfNone went (q ≡ p) → q.ccr < 32
+codes_after bus short space p q s t (Some flow) less done undone = done_codes bus short space p q s t flow less done
+codes_after bus short space p q s t None less done undone = subst (λ (r : Plain). r.ccr < 32) (sym undone) less
+
 -- and where no trace is due
-pub untraced_went : {S : Type 0} (bus : Bus S) (cpu value : Cpu) (before now : Plain) (first : ℕ) (short : Short) (flow : Bool) (s t : S)
-    → with_registers before cpu ≡ value → length before.a ≡ 8 → before.ccr < 32 → IsShort first short
-    → IsDone bus short (space_of cpu) before s flow now t → is_due value.regs.sr flow ≡ false
-    → run bus (found_executed value (by_decoded (alone first) (behind value first))) s
-    ≡ ((finish.Went, with_registers (record now { ccr = now.ccr % 32 }) cpu), t)
-untraced_went bus cpu value before now first short flow s t k len less right done untraced =
+pub untraced_went : {S : Type 0} (bus : Bus S) (cpu value : Cpu) (before now : Plain) (first : ℕ) (short : Short) (went : Option Bool) (s t : S)
+    → with_registers before cpu ≡ value → length before.a ≡ 8 → before.ccr < 32 → IsShort first short → is_some went ≡ true
+    → IfSome went (λ flow. IsDone bus short (space_of cpu) before s flow now t) → ((flow : Bool) → is_due value.regs.sr flow ≡ false)
+    → run bus (found_executed value (by_decoded (alone first) (behind value first))) s ≡ ((finish.Went, with_registers now cpu), t)
+untraced_went bus cpu value before now first short None s t k len less right is done untraced = absurd (let z : ⊥ = cc in z)
+untraced_went bus cpu value before now first short (Some flow) s t k len less right is done untraced =
     let due : is_due cpu.regs.sr flow ≡ false =
-    same_due before cpu flow ∙ ap (λ (c : Cpu). is_due c.regs.sr flow) k ∙ untraced in
-    went_apart bus cpu value before now first short flow s t ((finish.Went, with_registers (record now { ccr = now.ccr % 32 }) cpu), t)
-    k len less right done
-    (ap (λ (b : Bool). run bus (trace_if_of finish.Went b before.pc (with_registers now cpu)) t) due
-    ∙ ap (λ (c : Cpu). (let r : Stepped × _ = ((finish.Went, c), t) in r)) (sym (registers_low now cpu)))
+    same_due before cpu flow ∙ ap (λ (c : Cpu). is_due c.regs.sr flow) k ∙ untraced flow in
+    went_apart bus cpu value before now first short flow s t ((finish.Went, with_registers now cpu), t) k len less right done
+    (ap (λ (b : Bool). run bus (trace_if_of finish.Went b before.pc (with_registers now cpu)) t) due)
 
 -- what has followed the registers apart has followed those put together
 pub followed_apart : {S : Type 0} (by : S → List ℕ → List ℕ → Type 0) (s t : S) (cpu value after : Cpu) (before now : Plain)

@@ -1,12 +1,12 @@
 -- The registers that user mode sees, apart from the processor and put into it.
 use Rattle.std.proofs.Common.{◌≡◌, ◌∙◌, ◌<◌, ℕ, ◌/◌, ◌%◌, ◌^◌, ◌==◌, Bool, cond, [], ◌∷◌}
-use Rattle.std.proofs.Common.{take, length, length-append, arith, refl, ap, subst, sym}
-use Rattle.std.specs.Prelude.{◌||◌, ◌&&◌, slice_index}
+use Rattle.std.proofs.Common.{length, length-append, arith, refl, ap, subst, sym}
+use Rattle.std.specs.Prelude.{◌||◌, ◌&&◌}
 use Rattle.mb_port.specs.declared.types.Space.TheVariants.{User, Super}
 use Rattle.mb_instr.specs.declared.registers.Plain.{Plain}
 use Rattle.mb_instr.specs.declared.registers.Regs.{Regs}
-use Rattle.mb_instr.specs.Registers.{is_supervisor, is_master, active_stack, plain_of, with_ccr}
-use Rattle.mb_instr.proofs.PlainRegisters.{ccr_again, high14, high15, plain_found, plain_over, plain_same, same_mask, same_supervisor, set_by}
+use Rattle.mb_instr.specs.Registers.{active_stack, plain_of, with_ccr}
+use Rattle.mb_instr.proofs.PlainRegisters.{high14, high15, plain_found, plain_over, plain_same, same_mask, same_supervisor}
 use Rattle.mb_model.specs.declared.processor.Cpu.{Cpu}
 use Rattle.mb_model.specs.Status.{space_of}
 use Rattle.def_processor.specs.Raise.{is_due}
@@ -64,9 +64,3 @@ registers_same p cpu e h =
 
 pub five_bits : (p : Plain) (r : Regs) → p ≡ plain_of r → p.ccr < 32
 five_bits p r e = subst (λ (q : Plain). q.ccr < 32) (sym e) (omega arith)
-
--- of the condition codes five bits count
-pub registers_low : (p : Plain) (cpu : Cpu) → with_registers (record p { ccr = p.ccr % 32 }) cpu ≡ with_registers p cpu
-registers_low p cpu =
-    let r = cpu.regs in
-    ap (λ (n : ℕ). holding cpu (set_by (is_supervisor r.sr) (is_master r.sr) r (slice_index p.a 7) p.d (take 7 p.a) p.pc n)) (ccr_again r.sr p.ccr)

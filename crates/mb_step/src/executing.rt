@@ -1,6 +1,6 @@
 //! An instruction that was fetched is carried out, and finished.
 
-ghost use Rattle.std.specs.Prelude.{◌≡◌, ◌≢◌, ◌<◌};
+ghost use Rattle.std.specs.Prelude.{◌≡◌, ◌≢◌, ◌<◌, IfOk};
 ghost use Rattle.mb_port.specs.Routine.{run};
 ghost use Rattle.mb_instr.specs.Codes.{IsInstr};
 ghost use Rattle.mb_instr.specs.declared.instruction.Instr.TheVariants as instr;
@@ -57,7 +57,7 @@ pub(crate) fn execute_supervised<P: Port>(
     }
 }
 
-/// Finishes an instruction at `at` that was carried out and left these registers.
+/// Finishes an instruction at `at` that was carried out and left these registers, with five condition codes.
 #[inline(always)]
 pub(crate) fn finish_done<P: Port>(
     flow: bool,
@@ -66,6 +66,7 @@ pub(crate) fn finish_done<P: Port>(
     cpu: &mut Cpu,
     port: &mut P,
 ) -> Finish
+    requires { plain.old.ccr < 32 }
     ensures means { run P.bus
         (trace_if_of Finish.Went (is_due cpu.old.regs.sr flow) at (with_registers plain.old cpu.old)) (P.world port.old)
         ≡ ((result, with_registers plain.new cpu.new), P.world port.new) }
@@ -73,7 +74,6 @@ pub(crate) fn finish_done<P: Port>(
     ensures busy { result ≢ Finish.Idle }
     ensures rest { P.rest port.new ≡ P.rest port.old }
 {
-    plain.ccr %= 32;
     if is_due(cpu.regs.sr, flow) {
         trace_left(at, plain, cpu, port)
     } else {
@@ -82,7 +82,7 @@ pub(crate) fn finish_done<P: Port>(
 }
 
 /// Finishes an instruction that left these registers; those before it stand beside. Where it was not done, how it ended
-/// does too.
+/// does too; where it was, it left five condition codes.
 #[inline(always)]
 fn finish_plain<P: Port>(
     instruction: &Instr,
@@ -93,7 +93,8 @@ fn finish_plain<P: Port>(
     cpu: &mut Cpu,
     port: &mut P,
 ) -> Finish
-    requires { IsInstr instruction.now }
+    requires valid { IsInstr instruction.now }
+    requires ccr { IfOk done (λ flow. plain.old.ccr < 32) }
     ensures means { run P.bus (finish_instruction_of instruction.now (end_of (with_end done ended.now))
         (with_registers before.now cpu.old) (with_registers plain.old cpu.old)) (P.world port.old)
         ≡ ((result, with_registers plain.new cpu.new), P.world port.new) }

@@ -408,14 +408,9 @@ fn execute_untraced<P: Port, F: Follower, Loop>(
     ensures still { P.still (P.world port.new) ≡ P.still (P.world port.old) }
     ensures rest { P.rest port.new ≡ P.rest port.old }
 {
-    match perform_short::<_, _, Loop>(short, space, &mut processor.plain, port, follower) {
-        Some(_) => {
-            let _whole = in_whole(&processor.plain);
-            processor.plain.ccr %= 32;
-            true
-        }
-        None => false,
-    }
+    let flow = perform_short::<_, _, Loop>(short, space, &mut processor.plain, port, follower);
+    let _whole = in_whole(&processor.plain);
+    flow.is_some()
 }
 
 /// Fetches the instruction that stands at PC and carries it out by its short form, where all that is done at once; no

@@ -1,4 +1,4 @@
-use Rattle.mb_step.proofs.InShort.{even_apart, valid, valid_long, valid_with, went_apart}
+use Rattle.mb_step.proofs.InShort.{done_codes, even_apart, valid, valid_long, valid_with, went_apart}
 use Rattle.mb_step.proofs.fetching.execute_short.Goals as goal
 
 pub perform_short-requires-clause-even : goal.perform_short-requires-clause-even
@@ -13,6 +13,10 @@ perform_short-requires-clause-valid_with g c = valid_with c.args.first c.args.sh
 
 pub perform_short-requires-clause-valid_long : goal.perform_short-requires-clause-valid_long
 perform_short-requires-clause-valid_long g c = valid_long c.args.first c.args.short.now c.requires.short
+
+pub finish_done-requires : goal.finish_done-requires
+finish_done-requires g c =
+    done_codes g.P.Port.bus c.args.short.now _ c.processor.inside.plain _ _ _ c.in_ok-flow.flow c.processor.invariant c.in_ok-flow.ensures.done
 
 pub returns-clause-done : goal.returns-clause-done
 returns-clause-done g c =
