@@ -56,7 +56,7 @@ fn index_value(word: u16, plain: &Plain) -> u32
 
 /// The index that an extension word spells, scaled.
 #[inline(always)]
-pub(crate) fn index(word: u16, plain: &Plain) -> u32
+pub fn index(word: u16, plain: &Plain) -> u32
     ensures { result ≡ index_of word plain.now }
 {
     index_value(word, plain).wrapping_mul(1 << (word >> 9 & 3))

@@ -8,6 +8,6 @@ mod addresses;
 mod reading;
 mod resolving;
 
-pub use addresses::Target;
+pub use addresses::{Target, index};
 pub use reading::{ReadFault, join, read_operand, read_value};
 pub use resolving::{find_target, resolve};

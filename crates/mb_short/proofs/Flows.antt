@@ -6,7 +6,8 @@ use Rattle.mb_instr.specs.declared.kinds.Branch.{Branch}
 use Rattle.mb_instr.specs.declared.kinds.Condition.{Condition}
 use Rattle.mb_instr.specs.declared.kinds.Condition.TheVariants as condition
 use Rattle.mb_instr.specs.declared.size.Size.TheVariants.{Word}
-use Rattle.mb_instr.specs.declared.operand.Ea.TheVariants.{Disp, AbsL, PcDisp}
+use Rattle.mb_instr.specs.declared.operand.Ea.TheVariants.{Disp, Index, AbsL, PcDisp}
+use Rattle.mb_instr.specs.declared.operand.Ext.TheVariants.{Brief}
 use Rattle.mb_instr.specs.declared.instruction.Move.TheVariants as move
 use Rattle.mb_instr.specs.Registers.{address_register, with_address_register}
 use Rattle.mb_instr.specs.Sizes.{sign_extended}
@@ -21,6 +22,7 @@ use Rattle.def_instructions.specs.Ends.{Rowed, went}
 use Rattle.def_instructions.specs.Flow.{go_if_met_of, call_of, dbcc_of, target_of, is_call}
 use Rattle.def_instructions.specs.Operands.{stack_raised}
 use Rattle.def_instructions.specs.Stack.{link_of}
+use Rattle.mb_short.specs.Operands.{indexed_at}
 use Rattle.mb_short.specs.Taken.{Goes}
 use Rattle.mb_short.proofs.Moves.{goes}
 
@@ -69,6 +71,12 @@ address_goes bus n m d space p s =
     goes bus (instr.Move (move.Lea n (Disp m d))) p.pc space (past 2 p)
     (with_address_register (past 2 p) n (sum (address_register p m) (sign_extended Word d))) false s s refl
 
+pub indexed_goes : {S : Type 0} (bus : Bus S) (n m w : ℕ) (space : Space) (p : Plain) (s : S)
+    → Goes bus (instr.Move (move.Lea n (Index m (Brief w)))) 2 space p s false (with_address_register (past 2 p) n (indexed_at m w p)) s
+unfolding resolve_of
+indexed_goes bus n m w space p s =
+    goes bus (instr.Move (move.Lea n (Index m (Brief w)))) p.pc space (past 2 p) (with_address_register (past 2 p) n (indexed_at m w p)) false s s refl
+
 pub absolute_goes : {S : Type 0} (bus : Bus S) (n at : ℕ) (space : Space) (p : Plain) (s : S)
     → Goes bus (instr.Move (move.Lea n (AbsL at))) 3 space p s false (with_address_register (past 3 p) n at) s
 unfolding resolve_of
@@ -83,4 +91,4 @@ counter_goes bus n d space p s =
     goes bus (instr.Move (move.Lea n (PcDisp d))) p.pc space (past 2 p)
     (with_address_register (past 2 p) n (sum ((p.pc + 2) % 2 ^ 32) (sign_extended Word d))) false s s refl
 
-pub ruleset flows = (branch_goes, loop_goes, call_goes, return_goes, link_goes, unlink_goes, address_goes, absolute_goes, counter_goes)
+pub ruleset flows = (branch_goes, loop_goes, call_goes, return_goes, link_goes, unlink_goes, address_goes, indexed_goes, absolute_goes, counter_goes)

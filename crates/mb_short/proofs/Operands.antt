@@ -7,7 +7,8 @@ use Rattle.mb_port.specs.declared.types.Space.{Space}
 use Rattle.mb_instr.specs.declared.size.Size.{Size}
 use Rattle.mb_instr.specs.declared.size.Size.TheVariants.{Word}
 use Rattle.mb_instr.specs.declared.operand.Ea.{Ea}
-use Rattle.mb_instr.specs.declared.operand.Ea.TheVariants.{Dn, An, Disp, AbsL}
+use Rattle.mb_instr.specs.declared.operand.Ea.TheVariants.{Dn, An, Disp, Index, AbsL}
+use Rattle.mb_instr.specs.declared.operand.Ext.TheVariants.{Brief}
 use Rattle.mb_instr.specs.declared.registers.Plain.{Plain}
 use Rattle.mb_instr.specs.Codes.{IsInstr}
 use Rattle.mb_instr.specs.Operands.{lower}
@@ -38,7 +39,7 @@ use Rattle.mb_table.specs.declared.forms.Putting.{Putting}
 use Rattle.mb_table.specs.declared.forms.Putting.TheVariants as write
 use Rattle.mb_table.specs.Forms.{place_ea, register_ea, taking_of, putting_of}
 use Rattle.mb_short.specs.Moved.{moved_to}
-use Rattle.mb_short.specs.Operands.{place_at, register_value, HasRegister, taken_by, HasSource, put_value}
+use Rattle.mb_short.specs.Operands.{place_at, indexed_at, register_value, HasRegister, taken_by, HasSource, put_value}
 use Rattle.mb_short.specs.Taken.{Goes}
 use Rattle.mb_short.proofs.Moves.{is_data}
 use Rattle.mb_short.proofs.Goings.{one_goes, two_go, three_go}
@@ -108,6 +109,11 @@ pub near_found : {S : Type 0} (bus : Bus S) (size : Size) (m d : ℕ) (space : S
     → Finds bus size (Disp m d) space p s (sum (address_register p m) (sign_extended Word d)) p
 unfolding resolve_of
 near_found bus size m d space p s word_at = refl
+
+indexed_found : {S : Type 0} (bus : Bus S) (size : Size) (m w : ℕ) (space : Space) (p : Plain) (s : S)
+    → Finds bus size (Index m (Brief w)) space p s (indexed_at m w p) p
+unfolding resolve_of
+indexed_found bus size m w space p s word_at = refl
 
 absolute_found : {S : Type 0} (bus : Bus S) (size : Size) (at : ℕ) (space : Space) (p : Plain) (s : S) → Finds bus size (AbsL at) space p s at p
 unfolding resolve_of
@@ -223,17 +229,31 @@ takes_memory bus t size place value space p s valid read =
     (takes bus t size (place_ea place) (Memory (place_at place size moved)) value p.pc space moved after s (has_register t size (place_ea place) valid)
     (memory_fetched bus size (place_ea place) (place_at place size moved) value space moved after s (place_found bus size place space moved s) here))
 
+-- by two words, at an address that was found
+takes_found : {S : Type 0} (bus : Bus S) (t : Taking) (size : Size) (ea : Ea) (at value : ℕ) (space : Space) (p : Plain) (s : S)
+    → IsInstr (taking_of t size ea) → Finds bus size ea space (past 2 p) s at (past 2 p)
+    → run bus (read_operand_of space at (bytes_of size)) s ≡ (Ok value, s)
+    → Goes bus (taking_of t size ea) 2 space p s false (taken_by t size value (past 2 p)) s
+takes_found bus t size ea at value space p s valid found read =
+    let moved = past 2 p in
+    two_go bus (taking_of t size ea) space p (taken_by t size value moved) s s
+    (takes bus t size ea (Memory at) value p.pc space moved moved s (has_register t size ea valid)
+    (memory_fetched bus size ea at value space moved moved s found read))
+
 pub takes_near : {S : Type 0} (bus : Bus S) (t : Taking) (size : Size) (m d value : ℕ) (space : Space) (p : Plain) (s : S)
     → IsInstr (taking_of t size (Disp m d))
     → run bus (read_operand_of space (sum (address_register p m) (sign_extended Word d)) (bytes_of size)) s ≡ (Ok value, s)
     → Goes bus (taking_of t size (Disp m d)) 2 space p s false (taken_by t size value (past 2 p)) s
 takes_near bus t size m d value space p s valid read =
-    let moved = past 2 p in
-    two_go bus (taking_of t size (Disp m d)) space p (taken_by t size value moved) s s
-    (takes bus t size (Disp m d) (Memory (sum (address_register p m) (sign_extended Word d))) value p.pc space moved moved s
-    (has_register t size (Disp m d) valid)
-    (memory_fetched bus size (Disp m d) (sum (address_register p m) (sign_extended Word d)) value space moved moved s
-    (near_found bus size m d space moved s) read))
+    takes_found bus t size (Disp m d) (sum (address_register p m) (sign_extended Word d)) value space p s valid
+    (near_found bus size m d space (past 2 p) s) read
+
+pub takes_indexed : {S : Type 0} (bus : Bus S) (t : Taking) (size : Size) (m w value : ℕ) (space : Space) (p : Plain) (s : S)
+    → IsInstr (taking_of t size (Index m (Brief w)))
+    → run bus (read_operand_of space (indexed_at m w p) (bytes_of size)) s ≡ (Ok value, s)
+    → Goes bus (taking_of t size (Index m (Brief w))) 2 space p s false (taken_by t size value (past 2 p)) s
+takes_indexed bus t size m w value space p s valid read =
+    takes_found bus t size (Index m (Brief w)) (indexed_at m w p) value space p s valid (indexed_found bus size m w space (past 2 p) s) read
 
 pub takes_absolute : {S : Type 0} (bus : Bus S) (t : Taking) (size : Size) (at value : ℕ) (space : Space) (p : Plain) (s : S)
     → IsInstr (taking_of t size (AbsL at)) → run bus (read_operand_of space at (bytes_of size)) s ≡ (Ok value, s)
@@ -272,18 +292,31 @@ puts_memory bus t size place space p s u valid put =
     (subst (λ (value : ℕ). run bus (row_of (putting_of t size (place_ea place)) p.pc space moved) s ≡ (carried (move_flags size value after), u))
     (same_put t size 1 p) row)
 
+-- by two words, to an address that was found
+puts_found : {S : Type 0} (bus : Bus S) (t : Putting) (size : Size) (ea : Ea) (at : ℕ) (space : Space) (p : Plain) (s u : S)
+    → IsInstr (putting_of t size ea) → Finds bus size ea space (past 2 p) s at (past 2 p)
+    → run bus (write_operand_of space at (bytes_of size) (put_value t size p)) s ≡ (Ok tt, u)
+    → Goes bus (putting_of t size ea) 2 space p s false (move_flags size (put_value t size p) (past 2 p)) u
+puts_found bus t size ea at space p s u valid found put =
+    let moved = past 2 p in
+    let here = subst (λ (value : ℕ). run bus (write_operand_of space at (bytes_of size) value) s ≡ (Ok tt, u)) (sym (same_put t size 2 p)) put in
+    let row = puts bus t size ea at p.pc space moved moved s u (has_source t size ea valid) found here in
+    two_go bus (putting_of t size ea) space p (move_flags size (put_value t size p) moved) s u
+    (subst (λ (value : ℕ). run bus (row_of (putting_of t size ea) p.pc space moved) s ≡ (carried (move_flags size value moved), u)) (same_put t size 2 p) row)
+
 pub puts_near : {S : Type 0} (bus : Bus S) (t : Putting) (size : Size) (m d : ℕ) (space : Space) (p : Plain) (s u : S)
     → IsInstr (putting_of t size (Disp m d))
     → run bus (write_operand_of space (sum (address_register p m) (sign_extended Word d)) (bytes_of size) (put_value t size p)) s ≡ (Ok tt, u)
     → Goes bus (putting_of t size (Disp m d)) 2 space p s false (move_flags size (put_value t size p) (past 2 p)) u
 puts_near bus t size m d space p s u valid put =
-    let moved = past 2 p in
-    let at = sum (address_register p m) (sign_extended Word d) in
-    let here = subst (λ (value : ℕ). run bus (write_operand_of space at (bytes_of size) value) s ≡ (Ok tt, u)) (sym (same_put t size 2 p)) put in
-    let row = puts bus t size (Disp m d) at p.pc space moved moved s u (has_source t size (Disp m d) valid) (near_found bus size m d space moved s) here in
-    two_go bus (putting_of t size (Disp m d)) space p (move_flags size (put_value t size p) moved) s u
-    (subst (λ (value : ℕ). run bus (row_of (putting_of t size (Disp m d)) p.pc space moved) s ≡ (carried (move_flags size value moved), u))
-    (same_put t size 2 p) row)
+    puts_found bus t size (Disp m d) (sum (address_register p m) (sign_extended Word d)) space p s u valid (near_found bus size m d space (past 2 p) s) put
+
+pub puts_indexed : {S : Type 0} (bus : Bus S) (t : Putting) (size : Size) (m w : ℕ) (space : Space) (p : Plain) (s u : S)
+    → IsInstr (putting_of t size (Index m (Brief w)))
+    → run bus (write_operand_of space (indexed_at m w p) (bytes_of size) (put_value t size p)) s ≡ (Ok tt, u)
+    → Goes bus (putting_of t size (Index m (Brief w))) 2 space p s false (move_flags size (put_value t size p) (past 2 p)) u
+puts_indexed bus t size m w space p s u valid put =
+    puts_found bus t size (Index m (Brief w)) (indexed_at m w p) space p s u valid (indexed_found bus size m w space (past 2 p) s) put
 
 pub puts_absolute : {S : Type 0} (bus : Bus S) (t : Putting) (size : Size) (at : ℕ) (space : Space) (p : Plain) (s u : S)
     → IsInstr (putting_of t size (AbsL at)) → run bus (write_operand_of space at (bytes_of size) (put_value t size p)) s ≡ (Ok tt, u)

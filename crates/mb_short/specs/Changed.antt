@@ -40,12 +40,14 @@ with_step (place.Down m) c = with_address m c
 -- what the instruction of a short form that comes less often may change
 abbrev pub changed_of : Short → Changed
 changed_of (short.PutNear putting size m) = Nothing
+changed_of (short.PutIndexed putting size m) = Nothing
 changed_of (short.PutAbsolute putting size) = Nothing
 changed_of (short.CopyToNear size n m) = Nothing
 changed_of (short.TestBit n) = Nothing
 changed_of (short.TakeRegister taking size register) = taken_in taking
 changed_of (short.TakeMemory taking size at) = with_step at (taken_in taking)
 changed_of (short.TakeNear taking size m) = taken_in taking
+changed_of (short.TakeIndexed taking size m) = taken_in taking
 changed_of (short.TakeImmediate taking size) = taken_in taking
 changed_of (short.TakeAbsolute taking size) = taken_in taking
 changed_of (short.PutMemory putting size at) = with_step at Nothing
@@ -54,6 +56,7 @@ changed_of (short.UpdateNear update size m) = Nothing
 changed_of (short.CopyNear size m at) = with_step at Nothing
 changed_of (short.Change change size n) = Data n
 changed_of (short.AddressNear n m) = Address n
+changed_of (short.AddressIndexed n m) = Address n
 changed_of (short.AddressFromCounter n) = Address n
 changed_of (short.AddressAbsolute n) = Address n
 changed_of short.Return = Address 7

@@ -1,14 +1,14 @@
 -- Operands of short forms, and what becomes of them.
 use Rattle.std.specs.Prelude.{⊤, ℕ, ◌<◌}
 use Rattle.mb_instr.specs.declared.size.Size.{Size}
-use Rattle.mb_instr.specs.declared.size.Size.TheVariants.{Long}
+use Rattle.mb_instr.specs.declared.size.Size.TheVariants.{Byte, Long}
 use Rattle.mb_instr.specs.declared.registers.Plain.{Plain}
 use Rattle.mb_instr.specs.Sizes.{low_of, sign_extended}
 use Rattle.mb_instr.specs.Registers.{data_register, address_register, with_address_register}
 use Rattle.mb_alu.specs.declared.bitwise.LogicKind.TheVariants.{And, Or}
 use Rattle.mb_alu.specs.Logic.{logic_of}
 use Rattle.mb_alu.specs.Sums.{compare_of}
-use Rattle.mb_ea.specs.Addresses.{sum, difference, increment_of}
+use Rattle.mb_ea.specs.Addresses.{sum, difference, increment_of, index_of}
 use Rattle.def_instructions.specs.Arithmetic.{added, subtracted}
 use Rattle.def_instructions.specs.Moves.{move_flags}
 use Rattle.def_instructions.specs.Unary.{put_in_register_of}
@@ -27,6 +27,10 @@ abbrev pub place_at : Place → Size → Plain → ℕ
 place_at (place.At n) size p = address_register p n
 place_at (place.Up n) size p = address_register p n
 place_at (place.Down n) size p = difference (address_register p n) (increment_of size n)
+
+-- where an operand (d8,An,Xn) with this brief extension word stands
+abbrev pub indexed_at : ℕ → ℕ → Plain → ℕ
+indexed_at base word p = sum (sum (address_register p base) (sign_extended Byte word)) (index_of word p)
 
 -- all of a register
 abbrev pub register_value : Register → Plain → ℕ

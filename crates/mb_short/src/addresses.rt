@@ -4,14 +4,15 @@ ghost use Rattle.std.specs.Prelude.{◌≡◌, ◌+◌, ◌%◌, ◌^◌, ◌<�
 ghost use Rattle.mb_instr.specs.declared.size.Size.TheVariants.{Word};
 ghost use Rattle.mb_instr.specs.Sizes.{sign_extended};
 ghost use Rattle.mb_ea.specs.Addresses.{sum};
-ghost use Rattle.mb_instr.specs.declared.operand.Ea.TheVariants.{Disp, AbsL, PcDisp};
+ghost use Rattle.mb_instr.specs.declared.operand.Ea.TheVariants.{Disp, Index, AbsL, PcDisp};
+ghost use Rattle.mb_instr.specs.declared.operand.Ext.TheVariants.{Brief};
 ghost use Rattle.mb_instr.specs.declared.instruction.Instr.TheVariants as instr;
 ghost use Rattle.mb_instr.specs.declared.instruction.Move.TheVariants as move_row;
 ghost use Rattle.mb_short.specs.declared.changed.Changed.TheVariants.{Address};
 ghost use Rattle.mb_short.specs.Changed.{Differ};
 ghost use Rattle.mb_short.specs.Taken.{Goes};
 
-use crate::places::{near, pass_three, pass_two};
+use crate::places::{indexed, near, pass_three, pass_two};
 use mb_instr::{Plain, Size};
 use mb_port::{Port, Space};
 
@@ -80,5 +81,26 @@ pub(crate) fn load_from_counter<P: Port>(
     ensures differ { Differ (Address register) plain.old plain.new }
 {
     plain.a[register as usize] = from_counter(displacement, plain);
+    pass_two(plain);
+}
+
+/// LEA at PC of an operand (d8,An,Xn), whose brief extension word is the second word.
+#[inline(always)]
+#[tactic(auto, using(crate::proofs::Flows::flows, crate::proofs::Changes::changes))]
+pub(crate) fn load_indexed<P: Port>(
+    register: u8,
+    base: u8,
+    word: u16,
+    space: Space,
+    plain: &mut Plain,
+    port: &P,
+)
+    requires register { register < 8 }
+    requires base { base < 8 }
+    ensures means { Goes P.bus (instr.Move (move_row.Lea register (Index base (Brief word)))) 2 space plain.old
+        (P.world port.now) false plain.new (P.world port.now) }
+    ensures differ { Differ (Address register) plain.old plain.new }
+{
+    plain.a[register as usize] = indexed(base, word, plain);
     pass_two(plain);
 }

@@ -73,16 +73,19 @@ pub(crate) fn changed_by(short: &Short) -> Changed
     match *short {
         Short::Change { register, .. } => Changed::Data(register),
         Short::AddressNear { register, .. }
+        | Short::AddressIndexed { register, .. }
         | Short::AddressFromCounter { register }
         | Short::AddressAbsolute { register } => Changed::Address(register),
         Short::Return | Short::Call { .. } | Short::CallFar => Changed::Address(7),
         Short::PutNear { .. }
+        | Short::PutIndexed { .. }
         | Short::PutAbsolute { .. }
         | Short::UpdateNear { .. }
         | Short::CopyToNear { .. }
         | Short::TestBit { .. } => Changed::Nothing,
         Short::TakeRegister { taking, .. }
         | Short::TakeNear { taking, .. }
+        | Short::TakeIndexed { taking, .. }
         | Short::TakeImmediate { taking, .. }
         | Short::TakeAbsolute { taking, .. } => taken_in(taking),
         Short::TakeMemory { taking, place, .. } => taken_in(taking).with_step(place),

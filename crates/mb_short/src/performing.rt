@@ -7,23 +7,23 @@ ghost use Rattle.mb_short.specs.Always.{asks_nothing, is_of_registers_by_parts};
 ghost use Rattle.mb_short.specs.Changed.{changed_of, Differ, Follows};
 ghost use Rattle.mb_short.specs.Taken.{Comes, LongComes, IsDone};
 
-use crate::addresses::{load_absolute, load_from_counter, load_near};
+use crate::addresses::{load_absolute, load_from_counter, load_indexed, load_near};
 use crate::branches::{branch, branch_far, turn};
 use crate::changed::changed_by;
 use crate::changing::change_register;
 use crate::copying::{copy_near, copy_to_near};
 use crate::exchanging::{exchange_data, test_bit};
 use crate::following::{Follower, follow, values_of};
-use crate::putting::{put_absolute, put_memory, put_near};
+use crate::putting::{put_absolute, put_indexed, put_memory, put_near};
 use crate::registers::{perform_between_data, perform_in_address, perform_in_data};
 use crate::stack::{call_far, call_near, link, return_from, unlink};
 use crate::taking::{
-    take_absolute, take_immediate, take_long, take_memory, take_near, take_register,
+    take_absolute, take_immediate, take_indexed, take_long, take_memory, take_near, take_register,
 };
 use crate::updating::{update_memory, update_near};
 use mb_instr::{Plain, Size};
 use mb_port::{Port, Space};
-use mb_table::{Place, Putting, Short, Taking};
+use mb_table::{Place, Putting, Short, Taking, is_brief};
 
 /// The word behind the first, where it is known at once.
 #[inline(always)]
@@ -97,6 +97,14 @@ fn perform_pair<P: Port>(short: &Short, space: Space, plain: &mut Plain, port: &
     let word = second_word(space, plain, port)?;
     match *short {
         Short::TakeNear { taking, size, base } => take_near(taking, size, base, word, space, plain, port),
+        Short::TakeIndexed { taking, size, base } if is_brief(word) =>
+            take_indexed(taking, size, base, word, space, plain, port),
+        Short::PutIndexed { putting, size, base } if is_brief(word) =>
+            put_indexed(putting, size, base, word, space, plain, port),
+        Short::AddressIndexed { register, base } if is_brief(word) => {
+            load_indexed(register, base, word, space, plain, port);
+            Some(false)
+        }
         Short::TakeImmediate { taking, size: Size::Byte } => {
             take_immediate(taking, Size::Byte, word, space, plain, port);
             Some(false)

@@ -9,8 +9,9 @@ ghost use Rattle.mb_ea.specs.Addresses.{sum, increment_of};
 ghost use Rattle.mb_ea.specs.Resolve.{step_over_of};
 ghost use Rattle.def_instructions.specs.Attempt.{past};
 ghost use Rattle.mb_table.specs.Forms.{place_ea};
-ghost use Rattle.mb_short.specs.Operands.{place_at};
+ghost use Rattle.mb_short.specs.Operands.{place_at, indexed_at};
 
+use mb_ea::index;
 use mb_instr::{Plain, Size};
 use mb_table::Place;
 
@@ -61,6 +62,16 @@ pub(crate) fn near(base: u8, displacement: u16, plain: &Plain) -> u32
     ensures { result ≡ sum (address_register plain.now base) (sign_extended Word displacement) }
 {
     plain.a[base as usize].wrapping_add(Size::Word.sign_extend(u32::from(displacement)))
+}
+
+/// The address (d8,An,Xn) with this brief extension word.
+#[inline(always)]
+pub(crate) fn indexed(base: u8, word: u16, plain: &Plain) -> u32
+    requires { base < 8 }
+    ensures { result ≡ indexed_at base word plain.now }
+{
+    let displaced = plain.a[base as usize].wrapping_add(Size::Byte.sign_extend(u32::from(word)));
+    displaced.wrapping_add(index(word, plain))
 }
 
 /// PC goes past three words.

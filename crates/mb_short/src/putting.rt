@@ -1,7 +1,8 @@
 //! Operands that are written and not read.
 
 ghost use Rattle.std.specs.Prelude.{◌≡◌, IfSome, IfNone};
-ghost use Rattle.mb_instr.specs.declared.operand.Ea.TheVariants.{Disp, AbsL};
+ghost use Rattle.mb_instr.specs.declared.operand.Ea.TheVariants.{Disp, Index, AbsL};
+ghost use Rattle.mb_instr.specs.declared.operand.Ext.TheVariants.{Brief};
 ghost use Rattle.mb_instr.specs.Codes.{IsInstr};
 ghost use Rattle.mb_table.specs.Forms.{putting_of, place_ea};
 ghost use Rattle.mb_short.specs.declared.changed.Changed.TheVariants.{Nothing};
@@ -9,7 +10,7 @@ ghost use Rattle.mb_short.specs.Changed.{with_step, Differ};
 ghost use Rattle.mb_short.specs.Operands.{HasSource, put_value};
 ghost use Rattle.mb_short.specs.Taken.{Goes};
 
-use crate::places::{address, near, pass_one, pass_three, pass_two, step_over};
+use crate::places::{address, indexed, near, pass_one, pass_three, pass_two, step_over};
 use crate::registers::test;
 use mb_instr::{Plain, Size};
 use mb_operands::write_at_once;
@@ -83,6 +84,37 @@ pub(crate) fn put_near<P: Port>(
 {
     let value = value_of(putting, size, plain);
     if write_at_once(space, near(base, displacement, plain), size, value, port) {
+        pass_two(plain);
+        test(size, value, plain);
+        Some(false)
+    } else {
+        None
+    }
+}
+
+/// The same with an operand (d8,An,Xn), whose brief extension word is the second word.
+#[inline(always)]
+#[tactic(auto, using(crate::proofs::Operands::operands))]
+pub(crate) fn put_indexed<P: Port>(
+    putting: Putting,
+    size: Size,
+    base: u8,
+    word: u16,
+    space: Space,
+    plain: &mut Plain,
+    port: &mut P,
+) -> Option<bool>
+    requires { IsInstr (putting_of putting size (Index base (Brief word))) }
+    ensures done { IfSome result (λ flow. Goes P.bus (putting_of putting size (Index base (Brief word))) 2 space
+        plain.old (P.world port.old) flow plain.new (P.world port.new)) }
+    ensures differ { IfSome result (λ flow. Differ Nothing plain.old plain.new) }
+    ensures undone { IfNone result (plain.new ≡ plain.old) }
+    ensures same { IfNone result (P.world port.new ≡ P.world port.old) }
+    ensures still { P.still (P.world port.new) ≡ P.still (P.world port.old) }
+    ensures rest { P.rest port.new ≡ P.rest port.old }
+{
+    let value = value_of(putting, size, plain);
+    if write_at_once(space, indexed(base, word, plain), size, value, port) {
         pass_two(plain);
         test(size, value, plain);
         Some(false)

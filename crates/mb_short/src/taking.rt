@@ -1,7 +1,8 @@
 //! Operands that are only read.
 
 ghost use Rattle.std.specs.Prelude.{◌≡◌, ◌<◌, false, IfSome, IfNone};
-ghost use Rattle.mb_instr.specs.declared.operand.Ea.TheVariants.{Disp, AbsL};
+ghost use Rattle.mb_instr.specs.declared.operand.Ea.TheVariants.{Disp, Index, AbsL};
+ghost use Rattle.mb_instr.specs.declared.operand.Ext.TheVariants.{Brief};
 ghost use Rattle.mb_instr.specs.declared.size.Size.TheVariants.{Long};
 ghost use Rattle.mb_instr.specs.Codes.{IsInstr};
 ghost use Rattle.mb_instr.specs.Operands.{lower};
@@ -10,7 +11,7 @@ ghost use Rattle.mb_short.specs.Changed.{taken_in, with_step, Differ};
 ghost use Rattle.mb_short.specs.Operands.{HasRegister, taken_by, register_value};
 ghost use Rattle.mb_short.specs.Taken.{Goes};
 
-use crate::places::{address, near, pass_one, pass_three, pass_two, step_over};
+use crate::places::{address, indexed, near, pass_one, pass_three, pass_two, step_over};
 use crate::registers::{ADD, AND, OR, SUBTRACT, move_to, test};
 use mb_alu::compare;
 use mb_instr::{Plain, Size};
@@ -118,6 +119,30 @@ pub(crate) fn take_near<P: Port>(
     ensures undone { IfNone result (plain.new ≡ plain.old) }
 {
     let value = read_at_once(space, near(base, displacement, plain), size, port)?;
+    pass_two(plain);
+    take(taking, size, value, plain);
+    Some(false)
+}
+
+/// The same with an operand (d8,An,Xn), whose brief extension word is the second word.
+#[inline(always)]
+#[tactic(auto, using(crate::proofs::Operands::operands, crate::proofs::Changes::changes))]
+pub(crate) fn take_indexed<P: Port>(
+    taking: Taking,
+    size: Size,
+    base: u8,
+    word: u16,
+    space: Space,
+    plain: &mut Plain,
+    port: &P,
+) -> Option<bool>
+    requires { IsInstr (taking_of taking size (Index base (Brief word))) }
+    ensures done { IfSome result (λ flow. Goes P.bus (taking_of taking size (Index base (Brief word))) 2 space plain.old
+        (P.world port.now) flow plain.new (P.world port.now)) }
+    ensures differ { IfSome result (λ flow. Differ (taken_in taking) plain.old plain.new) }
+    ensures undone { IfNone result (plain.new ≡ plain.old) }
+{
+    let value = read_at_once(space, indexed(base, word, plain), size, port)?;
     pass_two(plain);
     take(taking, size, value, plain);
     Some(false)

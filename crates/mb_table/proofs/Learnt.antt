@@ -2,7 +2,7 @@
 use Rattle.std.proofs.Common.{◌≡◌, ◌∙◌, ℕ, ◌<◌, ◌^◌, List, [], ◌∷◌, ◌++◌, length, refl, ap, sym, subst, Option, Some, None, IfSome, inl, inr, arith}
 use Rattle.std.proofs.lemmas.Bool.{cases_eq}
 use Rattle.std.proofs.lemmas.List.{get_or-set_same, get_or-set_other, get_or_read, length-replicate, length-set}
-use Rattle.std.specs.Prelude.{⊤, zero, suc, ◌/◌, ◌%◌, true, nat_lt, replicate, slice_index_or, slice_set}
+use Rattle.std.specs.Prelude.{⊤, zero, suc, ◌/◌, ◌%◌, true, nat_lt, replicate, slice_index_or, slice_set, Bool, false}
 use Rattle.std.proofs.lemmas.Bool.Decides.{nat_tests}
 use Rattle.mb_instr.specs.declared.instruction.Instr.{Instr}
 use Rattle.mb_instr.specs.declared.instruction.Instr.TheVariants as instr
@@ -15,7 +15,8 @@ use Rattle.mb_instr.specs.declared.kinds.Branch.TheVariants as branch
 use Rattle.mb_instr.specs.declared.kinds.Condition.{Condition}
 use Rattle.mb_instr.specs.declared.kinds.Condition.TheVariants as condition
 use Rattle.mb_instr.specs.declared.size.Size.TheVariants.{Byte, Word, Long}
-use Rattle.mb_instr.specs.declared.operand.Ea.TheVariants.{Dn, Ind, Disp, AbsL, PcDisp}
+use Rattle.mb_instr.specs.declared.operand.Ea.TheVariants.{Dn, Ind, Disp, Index, AbsL, PcDisp}
+use Rattle.mb_instr.specs.declared.operand.Ext.TheVariants.{Brief}
 use Rattle.mb_instr.specs.Operands.{long_words}
 use Rattle.mb_instr.specs.Opcodes.{word_of, IsOpcode}
 use Rattle.mb_instr.specs.Shapes.{further}
@@ -38,7 +39,7 @@ use Rattle.mb_table.specs.declared.short.Short.TheVariants as short
 use Rattle.mb_table.specs.FirstWords.{alone}
 use Rattle.mb_table.specs.Forms.{place_ea, taking_of, immediate_of, putting_of, update_of, copy_of}
 use Rattle.mb_table.specs.Short.{meaning, meaning_with, meaning_with_long, IsAlone, IsWith, IsWithLong, IsShort}
-use Rattle.mb_table.specs.Short.{IsOfOneWord, IsOfTwoWords, IsOfThreeWords}
+use Rattle.mb_table.specs.Short.{IsOfOneWord, IsOfTwoWords, IsOfThreeWords, is_brief, with_brief, HasBrief}
 
 -- ---- a word by itself
 
@@ -98,14 +99,42 @@ one_word d = d ∷ []
 abbrev IsDisplaced : (ℕ → Instr) → Type 0
 IsDisplaced f = IsAlike FitsWord one_word f
 
+any_fitting : (Fits : ℕ → Type 0) (f : ℕ → Instr) (first second : ℕ) → ((d : ℕ) → Fits d → d < 2 ^ 16) → IsAlike Fits one_word f → AllDecoded
+    → ReadAgain → first < 2 ^ 16 → Fits second → alone first ≡ More → decode_of (first ∷ second ∷ []) ≡ Whole (f second) 2
+    → (d : ℕ) → Fits d → IsWith first d (f d)
+any_fitting Fits f first second words_fit same all again range fits more e d fits_d =
+    let words = AreWords-cons first (second ∷ []) range (AreWords-cons second [] (words_fit second fits) AreWords-nil) in
+    let (w, rest, codes, is, n) = begins (first ∷ second ∷ []) (f second) 2 all words e in
+    let are = AreWords-cons d [] (words_fit d fits_d) AreWords-nil in
+    let mine = codes_with Fits one_word f first second d (second ∷ []) w rest same fits fits_d are codes is in
+    (more, again (f d) (first ∷ d ∷ []) [] mine, mine.has)
+
 pub any_second : (f : ℕ → Instr) (first second : ℕ) → IsDisplaced f → AllDecoded → ReadAgain → first < 2 ^ 16 → second < 2 ^ 16
     → alone first ≡ More → decode_of (first ∷ second ∷ []) ≡ Whole (f second) 2
     → (d : ℕ) → d < 2 ^ 16 → IsWith first d (f d)
-any_second f first second same all again range range' more e d range_d =
-    let words = AreWords-cons first (second ∷ []) range (AreWords-cons second [] range' AreWords-nil) in
-    let (w, rest, codes, is, n) = begins (first ∷ second ∷ []) (f second) 2 all words e in
-    let mine = codes_with FitsWord one_word f first second d (second ∷ []) w rest same range' range_d (AreWords-cons d [] range_d AreWords-nil) codes is in
-    (more, again (f d) (first ∷ d ∷ []) [] mine, mine.has)
+any_second f first second = any_fitting FitsWord f first second (λ d h. h)
+
+-- with any brief extension word
+abbrev FitsBrief : ℕ → Type 0
+FitsBrief d = (d < 2 ^ 16) × (is_brief d ≡ true)
+
+abbrev IsIndexed : (ℕ → Instr) → Type 0
+IsIndexed f = IsAlike FitsBrief one_word f
+
+if_brief : (P : Instr → Type 0) (i : Instr) (d : ℕ) (b : Bool) → is_brief d ≡ b → (is_brief d ≡ true → P i) → IfSome (with_brief d i) P
+if_brief P i d true e h = rw e (h e)
+if_brief P i d false e h = rw e tt
+
+brief_is : (i j : Instr) (d : ℕ) → is_brief d ≡ true → IfSome (with_brief d j) (λ k. i ≡ k) → i ≡ j
+brief_is i j d e h = rw e at h
+
+any_brief : (f : ℕ → Instr) (first second : ℕ) (i : Instr) → IsIndexed f → AllDecoded → ReadAgain → first < 2 ^ 16 → second < 2 ^ 16
+    → alone first ≡ More → decode_of (first ∷ second ∷ []) ≡ Whole i 2 → IfSome (with_brief second (f second)) (λ j. i ≡ j)
+    → is_brief second ≡ true → (d : ℕ) → d < 2 ^ 16 → IfSome (with_brief d (f d)) (IsWith first d)
+any_brief f first second i same all again range range' more e h brief d range_d =
+    if_brief (IsWith first d) (f d) d (is_brief d) refl (λ mine.
+    any_fitting FitsBrief f first second (λ d h. h.0) same all again range (range', brief) more
+    (e ∙ ap (λ (j : Instr). Whole j 2) (brief_is i (f second) second brief h)) d (range_d, mine))
 
 load_displaced : (n m : ℕ) → IsDisplaced (λ d. instr.Move (move.Move Long (Dn n) (Disp m d)))
 load_displaced n m = record { legal = λ d e h k. refl; opcode = λ d e. refl; words = λ d. refl }
@@ -198,64 +227,92 @@ word_displaced (taking.SubtractAddress n) = record { legal = λ d e h k. rw (is_
 word_displaced (taking.CompareAddress n) = record { legal = λ d e h k. rw (is_word d h, is_word e k) refl; opcode = λ d e. refl; words = λ d. refl }
 word_displaced taking.Test = record { legal = λ d e h k. rw (is_word d h, is_word e k) refl; opcode = λ d e. refl; words = λ d. refl }
 
+-- operands with a brief extension word
+take_indexed : (t : Taking) (size : Size) (m : ℕ) → IsIndexed (λ d. taking_of t size (Index m (Brief d)))
+take_indexed (taking.Move n) size m = record { legal = λ d e h k. rw (h.1, k.1) refl; opcode = λ d e. refl; words = λ d. refl }
+take_indexed (taking.MoveAddress n) size m = record { legal = λ d e h k. rw (h.1, k.1) refl; opcode = λ d e. refl; words = λ d. refl }
+take_indexed (taking.Add n) size m = record { legal = λ d e h k. rw (h.1, k.1) refl; opcode = λ d e. refl; words = λ d. refl }
+take_indexed (taking.Subtract n) size m = record { legal = λ d e h k. rw (h.1, k.1) refl; opcode = λ d e. refl; words = λ d. refl }
+take_indexed (taking.And n) size m = record { legal = λ d e h k. rw (h.1, k.1) refl; opcode = λ d e. refl; words = λ d. refl }
+take_indexed (taking.Or n) size m = record { legal = λ d e h k. rw (h.1, k.1) refl; opcode = λ d e. refl; words = λ d. refl }
+take_indexed (taking.Compare n) size m = record { legal = λ d e h k. rw (h.1, k.1) refl; opcode = λ d e. refl; words = λ d. refl }
+take_indexed (taking.AddAddress n) size m = record { legal = λ d e h k. rw (h.1, k.1) refl; opcode = λ d e. refl; words = λ d. refl }
+take_indexed (taking.SubtractAddress n) size m = record { legal = λ d e h k. rw (h.1, k.1) refl; opcode = λ d e. refl; words = λ d. refl }
+take_indexed (taking.CompareAddress n) size m = record { legal = λ d e h k. rw (h.1, k.1) refl; opcode = λ d e. refl; words = λ d. refl }
+take_indexed taking.Test size m = record { legal = λ d e h k. rw (h.1, k.1) refl; opcode = λ d e. refl; words = λ d. refl }
+
+put_indexed : (t : Putting) (size : Size) (m : ℕ) → IsIndexed (λ d. putting_of t size (Index m (Brief d)))
+put_indexed (putting.Data n) size m = record { legal = λ d e h k. rw (h.1, k.1) refl; opcode = λ d e. refl; words = λ d. refl }
+put_indexed (putting.Address n) size m = record { legal = λ d e h k. rw (h.1, k.1) refl; opcode = λ d e. refl; words = λ d. refl }
+put_indexed putting.Zero size m = record { legal = λ d e h k. rw (h.1, k.1) refl; opcode = λ d e. refl; words = λ d. refl }
+
+address_indexed : (n m : ℕ) → IsIndexed (λ d. instr.Move (move.Lea n (Index m (Brief d))))
+address_indexed n m = record { legal = λ d e h k. rw (h.1, k.1) refl; opcode = λ d e. refl; words = λ d. refl }
+
 -- by a form that has a meaning with each second word, or with none
 with_any : (first second : ℕ) (i : Instr) (s : Short) → AllDecoded → ReadAgain → first < 2 ^ 16 → second < 2 ^ 16
     → alone first ≡ More → decode_of (first ∷ second ∷ []) ≡ Whole i 2 → IfSome (meaning_with second s) (λ j. i ≡ j)
-    → (d : ℕ) → d < 2 ^ 16 → IfSome (meaning_with d s) (IsWith first d)
-with_any first second i (short.LoadLong n m) all again r r' more e h d k =
+    → HasBrief second s → (d : ℕ) → d < 2 ^ 16 → IfSome (meaning_with d s) (IsWith first d)
+with_any first second i (short.LoadLong n m) all again r r' more e h brief d k =
     any_second (λ d. instr.Move (move.Move Long (Dn n) (Disp m d))) first second (load_displaced n m) all again r r' more
     (e ∙ ap (λ (j : Instr). Whole j 2) h) d k
-with_any first second i (short.StoreLong n m) all again r r' more e h d k =
+with_any first second i (short.StoreLong n m) all again r r' more e h brief d k =
     any_second (λ d. instr.Move (move.Move Long (Disp m d) (Dn n))) first second (store_displaced n m) all again r r' more
     (e ∙ ap (λ (j : Instr). Whole j 2) h) d k
-with_any first second i (short.BranchFar c) all again r r' more e h d k =
+with_any first second i (short.BranchFar c) all again r r' more e h brief d k =
     any_second (λ d. instr.Flow (flow.Bcc c (branch.Word d))) first second (branch_displaced c) all again r r' more
     (e ∙ ap (λ (j : Instr). Whole j 2) h) d k
-with_any first second i (short.Loop c n) all again r r' more e h d k =
+with_any first second i (short.Loop c n) all again r r' more e h brief d k =
     any_second (λ d. instr.Flow (flow.Dbcc c n d)) first second (loop_displaced c n) all again r r' more
     (e ∙ ap (λ (j : Instr). Whole j 2) h) d k
-with_any first second i (short.TakeNear t size m) all again r r' more e h d k =
+with_any first second i (short.TakeNear t size m) all again r r' more e h brief d k =
     any_second (λ d. taking_of t size (Disp m d)) first second (take_displaced t size m) all again r r' more
     (e ∙ ap (λ (j : Instr). Whole j 2) h) d k
-with_any first second i (short.TakeImmediate t Byte) all again r r' more e h d k =
+with_any first second i (short.TakeImmediate t Byte) all again r r' more e h brief d k =
     any_second (λ d. immediate_of t Byte d) first second (byte_displaced t) all again r r' more (e ∙ ap (λ (j : Instr). Whole j 2) h) d k
-with_any first second i (short.TakeImmediate t Word) all again r r' more e h d k =
+with_any first second i (short.TakeImmediate t Word) all again r r' more e h brief d k =
     any_second (λ d. immediate_of t Word d) first second (word_displaced t) all again r r' more (e ∙ ap (λ (j : Instr). Whole j 2) h) d k
-with_any first second i (short.PutNear t size m) all again r r' more e h d k =
+with_any first second i (short.PutNear t size m) all again r r' more e h brief d k =
     any_second (λ d. putting_of t size (Disp m d)) first second (put_displaced t size m) all again r r' more
     (e ∙ ap (λ (j : Instr). Whole j 2) h) d k
-with_any first second i (short.UpdateNear t size m) all again r r' more e h d k =
+with_any first second i (short.UpdateNear t size m) all again r r' more e h brief d k =
     any_second (λ d. update_of t size (Disp m d)) first second (update_displaced t size m) all again r r' more
     (e ∙ ap (λ (j : Instr). Whole j 2) h) d k
-with_any first second i (short.CopyNear size m place) all again r r' more e h d k =
+with_any first second i (short.CopyNear size m place) all again r r' more e h brief d k =
     any_second (λ d. copy_of size (place_ea place) (Disp m d)) first second (copy_displaced size m place) all again r r' more
     (e ∙ ap (λ (j : Instr). Whole j 2) h) d k
-with_any first second i (short.AddressNear n m) all again r r' more e h d k =
+with_any first second i (short.AddressNear n m) all again r r' more e h brief d k =
     any_second (λ d. instr.Move (move.Lea n (Disp m d))) first second (address_displaced n m) all again r r' more
     (e ∙ ap (λ (j : Instr). Whole j 2) h) d k
-with_any first second i (short.CopyToNear size n m) all again r r' more e h d k =
+with_any first second i (short.CopyToNear size n m) all again r r' more e h brief d k =
     any_second (λ d. copy_of size (Disp m d) (Ind n)) first second (copy_to_displaced size n m) all again r r' more
     (e ∙ ap (λ (j : Instr). Whole j 2) h) d k
-with_any first second i (short.AddressFromCounter n) all again r r' more e h d k =
+with_any first second i (short.AddressFromCounter n) all again r r' more e h brief d k =
     any_second (λ d. instr.Move (move.Lea n (PcDisp d))) first second (counter_displaced n) all again r r' more
     (e ∙ ap (λ (j : Instr). Whole j 2) h) d k
-with_any first second i (short.TestBit n) all again r r' more e h d k =
+with_any first second i (short.TestBit n) all again r r' more e h brief d k =
     any_second (λ d. instr.Arith (arithmetic.BitImm bit.Test (Dn n) d)) first second (bit_displaced n) all again r r' more
     (e ∙ ap (λ (j : Instr). Whole j 2) h) d k
-with_any first second i short.CallFar all again r r' more e h d k =
+with_any first second i short.CallFar all again r r' more e h brief d k =
     any_second (λ d. instr.Flow (flow.Bcc condition.False (branch.Word d))) first second (branch_displaced condition.False) all again r r' more
     (e ∙ ap (λ (j : Instr). Whole j 2) h) d k
-with_any first second i (short.Link n) all again r r' more e h d k =
+with_any first second i (short.Link n) all again r r' more e h brief d k =
     any_second (λ d. instr.Move (move.LinkW n d)) first second (link_displaced n) all again r r' more
     (e ∙ ap (λ (j : Instr). Whole j 2) h) d k
-with_any first second i _ all again r r' more e h d k = tt
+with_any first second i (short.TakeIndexed t size m) all again r r' more e h brief d k =
+    any_brief (λ d. taking_of t size (Index m (Brief d))) first second i (take_indexed t size m) all again r r' more e h brief d k
+with_any first second i (short.PutIndexed t size m) all again r r' more e h brief d k =
+    any_brief (λ d. putting_of t size (Index m (Brief d))) first second i (put_indexed t size m) all again r r' more e h brief d k
+with_any first second i (short.AddressIndexed n m) all again r r' more e h brief d k =
+    any_brief (λ d. instr.Move (move.Lea n (Index m (Brief d)))) first second i (address_indexed n m) all again r r' more e h brief d k
+with_any first second i _ all again r r' more e h brief d k = tt
 
 pub learnt_with : (first second : ℕ) (i : Instr) (s : Short) → AllDecoded → ReadAgain → first < 2 ^ 16 → second < 2 ^ 16
     → alone first ≡ More → decode_of (first ∷ second ∷ []) ≡ Whole i 2 → IfSome (meaning_with second s) (λ j. i ≡ j)
-    → IsOfTwoWords s → IsShort first s
+    → IsOfTwoWords second s → IsShort first s
 learnt_with first second i s all again r r' more e h none = (
   if_none (IsAlone first) (meaning s) none.0,
-  with_any first second i s all again r r' more e h,
+  with_any first second i s all again r r' more e h none.2,
   λ value range. if_none (IsWithLong first value) (meaning_with_long value s) (none.1 value),
 )
 

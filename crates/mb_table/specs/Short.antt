@@ -1,8 +1,10 @@
 -- What instructions in short say.
-use Rattle.std.specs.Prelude.{◌≡◌, ℕ, ◌/◌, ◌<◌, ◌^◌, [], ◌∷◌, Option, Some, None, IfSome, false, true}
+use Rattle.std.specs.Prelude.{◌≡◌, ◌==◌, ⊤, ℕ, Bool, if◌then◌else◌, ◌/◌, ◌<◌, ◌^◌, [], ◌∷◌, Option, Some, None, IfSome, false, true}
 use Rattle.mb_instr.specs.declared.size.Size.TheVariants.{Byte, Word, Long}
 use Rattle.mb_instr.specs.declared.kinds.ShiftKind.TheVariants.{Logical}
-use Rattle.mb_instr.specs.declared.operand.Ea.TheVariants.{Dn, An, Ind, Post, Disp, AbsL, PcDisp}
+use Rattle.mb_instr.specs.declared.operand.Ea.TheVariants.{Dn, An, Ind, Post, Disp, Index, AbsL, PcDisp}
+use Rattle.mb_instr.specs.declared.operand.Ext.TheVariants.{Brief}
+use Rattle.mb_instr.specs.FurtherWords.{extension_word}
 use Rattle.mb_instr.specs.declared.instruction.Instr.{Instr}
 use Rattle.mb_instr.specs.declared.instruction.Instr.TheVariants as instr
 use Rattle.mb_instr.specs.declared.instruction.Move.TheVariants as move
@@ -55,6 +57,14 @@ meaning (short.Call d) = Some (instr.Flow (flow.Bcc condition.False (branch.Byte
 meaning (short.Unlink n) = Some (instr.Move (move.Unlk n))
 meaning _ = None
 
+-- an extension word is brief
+abbrev pub is_brief : ℕ → Bool
+is_brief word = (extension_word word).is_full == 0
+
+-- an instruction that has this extension word, where that is brief
+abbrev pub with_brief : ℕ → Instr → Option Instr
+with_brief word i = if is_brief word then Some i else None
+
 -- the instruction of two words that it is with this second one
 abbrev pub meaning_with : ℕ → Short → Option Instr
 meaning_with d (short.LoadLong n m) = Some (instr.Move (move.Move Long (Dn n) (Disp m d)))
@@ -64,6 +74,9 @@ meaning_with d (short.Loop c n) = Some (instr.Flow (flow.Dbcc c n d))
 meaning_with d (short.TakeNear taking size m) = Some (taking_of taking size (Disp m d))
 meaning_with d (short.TakeImmediate taking Byte) = Some (immediate_of taking Byte d)
 meaning_with d (short.TakeImmediate taking Word) = Some (immediate_of taking Word d)
+meaning_with d (short.TakeIndexed taking size m) = with_brief d (taking_of taking size (Index m (Brief d)))
+meaning_with d (short.PutIndexed putting size m) = with_brief d (putting_of putting size (Index m (Brief d)))
+meaning_with d (short.AddressIndexed n m) = with_brief d (instr.Move (move.Lea n (Index m (Brief d))))
 meaning_with d (short.PutNear putting size m) = Some (putting_of putting size (Disp m d))
 meaning_with d (short.UpdateNear update size m) = Some (update_of update size (Disp m d))
 meaning_with d (short.CopyNear size m place) = Some (copy_of size (place_ea place) (Disp m d))
@@ -108,9 +121,16 @@ IsShort first s =
 abbrev pub IsOfOneWord : Short → Type 0
 IsOfOneWord s = ((second : ℕ) → meaning_with second s ≡ None) × ((value : ℕ) → meaning_with_long value s ≡ None)
 
--- it is one of two words, or none
-abbrev pub IsOfTwoWords : Short → Type 0
-IsOfTwoWords s = (meaning s ≡ None) × ((value : ℕ) → meaning_with_long value s ≡ None)
+-- where a form has an extension word, this one is brief
+abbrev pub HasBrief : ℕ → Short → Type 0
+HasBrief second (short.TakeIndexed taking size m) = is_brief second ≡ true
+HasBrief second (short.PutIndexed putting size m) = is_brief second ≡ true
+HasBrief second (short.AddressIndexed n m) = is_brief second ≡ true
+HasBrief second _ = ⊤
+
+-- it is one of two words, of which this is the second, or none
+abbrev pub IsOfTwoWords : ℕ → Short → Type 0
+IsOfTwoWords second s = (meaning s ≡ None) × ((value : ℕ) → meaning_with_long value s ≡ None) × HasBrief second s
 
 -- it is one of three words, or none
 abbrev pub IsOfThreeWords : Short → Type 0

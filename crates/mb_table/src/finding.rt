@@ -12,10 +12,10 @@ use crate::operands::{
     Changed, Immediate, Taken, Updated, Written, find_changed, find_immediate, find_taken,
     find_updated, find_written,
 };
-use crate::short::Short;
+use crate::short::{Short, is_brief};
 use mb_decode::Decoded;
 use mb_instr::{
-    Arith, BitKind, Branch, Condition, Ea, Exchange, Flow, Instr, Move, ShiftKind, Size,
+    Arith, BitKind, Branch, Condition, Ea, Exchange, Ext, Flow, Instr, Move, ShiftKind, Size,
 };
 
 /// The form of what moves, where it has one of its own.
@@ -233,7 +233,7 @@ pub(crate) fn short_of(found: &Decoded) -> Short
 #[rattlefmt::skip]
 fn short_pair(second: u16, instruction: &Instr) -> Short
     ensures with { IfSome (meaning_with second result) (λ i. instruction.now ≡ i) }
-    ensures pair { IsOfTwoWords result }
+    ensures pair { IsOfTwoWords second result }
 {
     match *instruction {
         Instr::Move(Move::Move { size: Size::Long, destination: Ea::Dn(register), source: Ea::Disp(base, d) })
@@ -263,7 +263,7 @@ fn short_pair(second: u16, instruction: &Instr) -> Short
 #[rattlefmt::skip]
 fn copy_near(second: u16, instruction: &Instr) -> Short
     ensures with { IfSome (meaning_with second result) (λ i. instruction.now ≡ i) }
-    ensures pair { IsOfTwoWords result }
+    ensures pair { IsOfTwoWords second result }
 {
     let Instr::Move(Move::Move { size, destination, source: Ea::Disp(base, d) }) = *instruction else {
         return Short::Other;
@@ -280,7 +280,7 @@ fn copy_near(second: u16, instruction: &Instr) -> Short
 #[rattlefmt::skip]
 fn take_immediate(second: u16, instruction: &Instr) -> Short
     ensures with { IfSome (meaning_with second result) (λ i. instruction.now ≡ i) }
-    ensures pair { IsOfTwoWords result }
+    ensures pair { IsOfTwoWords second result }
 {
     match find_immediate(instruction) {
         Some(Immediate { taking, size: Size::Byte, value }) if value == u32::from(second) =>
@@ -291,11 +291,38 @@ fn take_immediate(second: u16, instruction: &Instr) -> Short
     }
 }
 
+/// The form of an instruction that reads or writes an operand which the second word, a brief one, extends, or takes its
+/// address.
+#[rattlefmt::skip]
+fn indexed_by_operand(second: u16, instruction: &Instr) -> Short
+    ensures with { IfSome (meaning_with second result) (λ i. instruction.now ≡ i) }
+    ensures pair { IsOfTwoWords second result }
+{
+    if !is_brief(second) {
+        return Short::Other;
+    }
+    match *instruction {
+        Instr::Move(Move::Lea { register, ea: Ea::Index(base, Ext::Brief(d)) }) if d == second =>
+            return Short::AddressIndexed { register, base },
+        _ => {}
+    }
+    match find_taken(instruction) {
+        Some(Taken { taking, size, ea: Ea::Index(base, Ext::Brief(d)) }) if d == second =>
+            return Short::TakeIndexed { taking, size, base },
+        _ => {}
+    }
+    match find_written(instruction) {
+        Some(Written { putting, size, ea: Ea::Index(base, Ext::Brief(d)) }) if d == second =>
+            Short::PutIndexed { putting, size, base },
+        _ => Short::Other,
+    }
+}
+
 /// The form of an instruction that reads, writes or changes an operand which the second word displaces.
 #[rattlefmt::skip]
 fn near_by_operand(second: u16, instruction: &Instr) -> Short
     ensures with { IfSome (meaning_with second result) (λ i. instruction.now ≡ i) }
-    ensures pair { IsOfTwoWords result }
+    ensures pair { IsOfTwoWords second result }
 {
     match find_taken(instruction) {
         Some(Taken { taking, size, ea: Ea::Disp(base, d) }) if d == second =>
@@ -317,7 +344,7 @@ fn near_by_operand(second: u16, instruction: &Instr) -> Short
 /// The short form of a first word that is this instruction with the second.
 pub(crate) fn short_with(second: u16, instruction: &Instr) -> Short
     ensures with { IfSome (meaning_with second result) (λ i. instruction.now ≡ i) }
-    ensures pair { IsOfTwoWords result }
+    ensures pair { IsOfTwoWords second result }
 {
     match short_pair(second, instruction) {
         Short::Other => {}
@@ -328,6 +355,10 @@ pub(crate) fn short_with(second: u16, instruction: &Instr) -> Short
         found => return found,
     }
     match take_immediate(second, instruction) {
+        Short::Other => {}
+        found => return found,
+    }
+    match indexed_by_operand(second, instruction) {
         Short::Other => near_by_operand(second, instruction),
         found => found,
     }

@@ -1,10 +1,13 @@
 //! Instructions in short.
 
+ghost use Rattle.std.specs.Prelude.{◌≡◌};
+ghost use Rattle.mb_table.specs.Short.{is_brief};
+
 use crate::forms::{Change, Place, Putting, Register, Taking, Update};
 use mb_instr::{Condition, Size};
 
-/// What a first word says by itself, in six bytes: which instruction it is, or which one it is with each second word or
-/// with each second and third.
+/// What a first word says by itself, in six bytes: which instruction it is, or which one it is with each second word,
+/// with each that is a brief extension word, or with each second and third.
 ///
 /// What is carried out most often has a form of its own, which says all but the numbers in it; the other forms have
 /// parts that say the operand and what becomes of it.
@@ -155,6 +158,12 @@ pub enum Short {
         size: Size,
         base: u8,
     },
+    /// An operand `(d8,An,Xn)` is read; the second word is its brief extension word.
+    TakeIndexed {
+        taking: Taking,
+        size: Size,
+        base: u8,
+    },
     /// An immediate is read: a byte or a word is the second word, and a long the second and the third.
     TakeImmediate {
         taking: Taking,
@@ -173,6 +182,12 @@ pub enum Short {
     },
     /// An operand `(d16,An)` is written; the second word is the displacement.
     PutNear {
+        putting: Putting,
+        size: Size,
+        base: u8,
+    },
+    /// An operand `(d8,An,Xn)` is written; the second word is its brief extension word.
+    PutIndexed {
         putting: Putting,
         size: Size,
         base: u8,
@@ -226,6 +241,11 @@ pub enum Short {
         register: u8,
         base: u8,
     },
+    /// `LEA (d8,An,Xn),Am`; the second word is its brief extension word.
+    AddressIndexed {
+        register: u8,
+        base: u8,
+    },
     /// `LEA (d16,PC),An`; the second word is the displacement.
     AddressFromCounter {
         register: u8,
@@ -250,4 +270,12 @@ pub enum Short {
     Unlink {
         register: u8,
     },
+}
+
+/// Whether an extension word is brief.
+#[inline(always)]
+pub fn is_brief(word: u16) -> bool
+    ensures { result ≡ is_brief word }
+{
+    word >> 8 & 1 == 0
 }

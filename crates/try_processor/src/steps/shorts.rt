@@ -129,6 +129,34 @@ static OF_THREE_WORDS: [[u16; 3]; 16] = [
     [0x0069, 0x1234, 0x0002],
 ];
 
+/// First words that have a short form with any brief extension word, each with one.
+static INDEXED: [[u16; 2]; 24] = [
+    [0x2431, 0x40FC], // MOVE.L (-4,A1,D4.W),D2
+    [0x1431, 0x48FD], // MOVE.B (-3,A1,D4.L),D2
+    [0x2437, 0x4000], // MOVE.L (0,A7,D4.W),D2
+    [0x3471, 0x6200], // MOVEA.W (0,A1,D6.W*2),A2
+    [0x2671, 0x5803], // MOVEA.L (3,A1,D5.L),A3
+    [0xD4B1, 0x4400], // ADD.L (0,A1,D4.W*4),D2
+    [0x9471, 0x42FE], // SUB.W (-2,A1,D4.W*2),D2
+    [0xC431, 0x5001], // AND.B (1,A1,D5.W),D2
+    [0x84B1, 0x4CF0], // OR.L (-16,A1,D4.L*4),D2
+    [0xB471, 0x6000], // CMP.W (0,A1,D6.W),D2
+    [0xD5F1, 0x4E08], // ADDA.L (8,A1,D4.L*8),A2
+    [0x94F1, 0x7205], // SUBA.W (5,A1,D7.W*2),A2
+    [0xB5F1, 0xA080], // CMPA.L (-128,A1,A2.W),A2
+    [0x4AB1, 0x4000], // TST.L (0,A1,D4.W)
+    [0x4A71, 0x9200], // TST.W (0,A1,A1.W*2)
+    [0x2382, 0x40FC], // MOVE.L D2,(-4,A1,D4.W)
+    [0x1382, 0x5000], // MOVE.B D2,(0,A1,D5.W)
+    [0x338A, 0x6400], // MOVE.W A2,(0,A1,D6.W*4)
+    [0x2F84, 0x4804], // MOVE.L D4,(4,A7,D4.L)
+    [0x4231, 0x48FD], // CLR.B (-3,A1,D4.L)
+    [0x42B1, 0x4000], // CLR.L (0,A1,D4.W)
+    [0x45F1, 0x0E80], // LEA (-128,A1,D0.L*8),A2
+    [0x43F1, 0x9000], // LEA (0,A1,A1.W),A1
+    [0x4BF7, 0xF87F], // LEA (127,A7,A7.L),A5
+];
+
 /// What a step is taken from: the status register, the byte that is refused, and whether the bus answers quick calls.
 struct Setting {
     sr: u16,
@@ -209,6 +237,16 @@ fn are_as_general(setting: &Setting, all: &[u16], second: u16, bench: &mut Bench
     true
 }
 
+/// Whether the second step of each two words with an index is as its first.
+fn are_indexed_as_general(setting: &Setting, bench: &mut Bench) -> bool {
+    for [first, second] in &INDEXED {
+        if !setting.is_as_general([*first, *second, 0x4E71], bench) {
+            return false;
+        }
+    }
+    true
+}
+
 /// Whether the second step of each three words is as its first.
 fn are_found_again(setting: &Setting, bench: &mut Bench) -> bool {
     for words in &OF_THREE_WORDS {
@@ -227,6 +265,7 @@ impl Trial for Setting {
         self.put_operands(&mut bench.other);
         are_as_general(self, &ALONE, 0x4E71, bench)
             && are_as_general(self, &WITH_ANOTHER, 0x0004, bench)
+            && are_indexed_as_general(self, bench)
             && are_found_again(self, bench)
             && bench.other.longs == bench.port.longs
     }
@@ -254,8 +293,56 @@ impl Trial for [u16; 5] {
     }
 }
 
+/// LEA (d8,A1,Xn),A2 by the words behind the first, with A2 and PC after it.
+struct Index {
+    words: [u16; 2],
+    address: u32,
+    pc: u32,
+}
+
+/// Brief extension words, and full ones, which spell other displacements or leave base or index out.
+#[rattlefmt::skip]
+static INDICES: [Index; 16] = [
+    Index { words: [0x4000, 0x4E71], address: 0x110C, pc: CODE + 4 }, // (0,A1,D4.W)
+    Index { words: [0x4800, 0x4E71], address: 0x110C, pc: CODE + 4 }, // (0,A1,D4.L)
+    Index { words: [0x4200, 0x4E71], address: 0x1110, pc: CODE + 4 }, // (0,A1,D4.W*2)
+    Index { words: [0x4400, 0x4E71], address: 0x1118, pc: CODE + 4 }, // (0,A1,D4.W*4)
+    Index { words: [0x4600, 0x4E71], address: 0x1128, pc: CODE + 4 }, // (0,A1,D4.W*8)
+    Index { words: [0x407F, 0x4E71], address: 0x118B, pc: CODE + 4 }, // (127,A1,D4.W)
+    Index { words: [0x4080, 0x4E71], address: 0x108C, pc: CODE + 4 }, // (-128,A1,D4.W)
+    Index { words: [0x0000, 0x4E71], address: 0xFFFF_E1D8, pc: CODE + 4 }, // (0,A1,D0.W)
+    Index { words: [0x0800, 0x4E71], address: 0xD0D0_E1D8, pc: CODE + 4 }, // (0,A1,D0.L)
+    Index { words: [0x0E00, 0x4E71], address: 0x8686_9788, pc: CODE + 4 }, // (0,A1,D0.L*8)
+    Index { words: [0xA000, 0x4E71], address: 0x11AA, pc: CODE + 4 }, // (0,A1,A2.W)
+    Index { words: [0xF800, 0x4E71], address: 0x2218, pc: CODE + 4 }, // (0,A1,A7.L)
+    Index { words: [0x4110, 0x4E71], address: 0x110C, pc: CODE + 4 }, // full, no displacement
+    Index { words: [0x4120, 0x0010], address: 0x111C, pc: CODE + 6 }, // full, a displacement of a word
+    Index { words: [0x4150, 0x4E71], address: 0x1108, pc: CODE + 4 }, // full, no index
+    Index { words: [0x4190, 0x4E71], address: 0x0004, pc: CODE + 4 }, // full, no base
+];
+
+impl Trial for Index {
+    /// Once LEA came with a brief extension word it comes to the address that any other extension word spells.
+    fn passes(&self, bench: &mut Bench) -> bool {
+        let [second, third] = self.words;
+        SETTINGS[0].put_operands(&mut bench.port);
+        let _learnt = SETTINGS[0].step(
+            [0x45F1, 0x4000, 0x4E71],
+            &mut bench.decoder,
+            &mut bench.port,
+        );
+        let stepped = SETTINGS[0].step(
+            [0x45F1, second, third],
+            &mut bench.decoder,
+            &mut bench.port,
+        );
+        stepped.cpu.regs.a[2] == self.address && stepped.cpu.regs.pc == self.pc
+    }
+}
+
 #[test]
 fn short_forms(rt: HostRuntime) {
     check(&rt, rt.alloc(), &SETTINGS);
     check(&rt, rt.alloc(), &THIRDS);
+    check(&rt, rt.alloc(), &INDICES);
 }
