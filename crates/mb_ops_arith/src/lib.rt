@@ -23,5 +23,5 @@ mod unary;
 pub use direct::{combine_into, combine_registers, compare_with};
 pub use operations::{Operation, Sum};
 pub use performing::{perform_arith, perform_arith_in_place};
-pub use products::multiply_word;
+pub use products::{divided_long, multiply_long, multiply_word, put_quotient};
 pub use unary::put_in_register;

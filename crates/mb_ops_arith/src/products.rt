@@ -2,7 +2,8 @@
 
 ghost use Rattle.std.specs.Prelude.{◌≡◌, ◌<◌};
 ghost use Rattle.mb_instr.specs.FurtherWords.{pair_word};
-ghost use Rattle.mb_alu.specs.Products.{IsBounded};
+ghost use Rattle.mb_alu.specs.Products.{IsBounded, div_of};
+ghost use Rattle.mb_alu.specs.declared.quotients.Divided.TheVariants.{Done};
 ghost use Rattle.mb_alu.specs.declared.width.Width.TheVariants as width;
 ghost use Rattle.def_instructions.specs.Ends.{carried};
 ghost use Rattle.def_instructions.specs.Products.{multiply_word_of, divided_by_word, divide_word_of};
@@ -135,9 +136,9 @@ fn multiply_to_wide(word: u16, value: u32, plain: &mut Plain)
     plain.ccr = product.ccr;
 }
 
-/// MULU.L and MULS.L.
+/// MULU.L and MULS.L; `word` names the registers.
 #[inline(always)]
-pub(crate) fn multiply_long(word: u16, value: u32, plain: &mut Plain)
+pub fn multiply_long(word: u16, value: u32, plain: &mut Plain)
     ensures { carried plain.new ≡ multiply_long_of word value plain.old }
 {
     if is_wide(word) {
@@ -172,7 +173,32 @@ fn width(word: u16) -> Width
     }
 }
 
-/// What a division by a long leaves. The register of the remainder is written first.
+/// What a division by a long comes to; `word` names the registers.
+#[inline(always)]
+pub fn divided_long(word: u16, value: u32, plain: &Plain) -> Divided
+    ensures { result ≡ div_of (pair_word word).is_signed (width_in word) value (dividend_of word plain.now)
+        plain.now.ccr }
+{
+    div(
+        is_signed(word),
+        width(word),
+        value,
+        dividend(word, plain),
+        plain.ccr,
+    )
+}
+
+/// A quotient and its remainder come to the registers that `word` names, that of the remainder first.
+#[inline(always)]
+pub fn put_quotient(word: u16, quotient: u32, remainder: u32, ccr: u8, plain: &mut Plain)
+    ensures { carried plain.new ≡ divided_by_long word (Done quotient remainder ccr) plain.old }
+{
+    plain.d[high_register(word)] = remainder;
+    plain.d[low_register(word)] = quotient;
+    plain.ccr = ccr;
+}
+
+/// What a division by a long leaves.
 #[inline(always)]
 fn leave_longs(
     word: u16,
@@ -188,9 +214,7 @@ fn leave_longs(
             remainder,
             ccr,
         } => {
-            plain.d[high_register(word)] = remainder;
-            plain.d[low_register(word)] = quotient;
-            plain.ccr = ccr;
+            put_quotient(word, quotient, remainder, ccr, plain);
             Ok(())
         }
         Divided::Overflow(ccr) => {
@@ -214,7 +238,6 @@ pub(crate) fn divide_long(
 ) -> Result<(), Undone>
     ensures means { carried_by result ended.new plain.new ≡ divide_long_of word value plain.old }
 {
-    let dividend = dividend(word, plain);
-    let divided = div(is_signed(word), width(word), value, dividend, plain.ccr);
+    let divided = divided_long(word, value, plain);
     leave_longs(word, divided, plain, ended)
 }

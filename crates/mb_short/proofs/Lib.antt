@@ -8,3 +8,4 @@ pub mod Flows
 pub mod Changes
 pub mod Followings
 pub mod Exchanges
+pub mod Pairs

@@ -15,6 +15,7 @@ mod exchanging;
 mod following;
 mod performing;
 mod places;
+mod products;
 mod putting;
 mod registers;
 mod stack;

@@ -14,6 +14,7 @@ use crate::changing::change_register;
 use crate::copying::{copy_near, copy_to_near};
 use crate::exchanging::{exchange_data, test_bit};
 use crate::following::{Follower, follow, values_of};
+use crate::products::{divide_long, multiply_long};
 use crate::putting::{put_absolute, put_indexed, put_memory, put_near};
 use crate::registers::{perform_between_data, perform_in_address, perform_in_data};
 use crate::stack::{call_far, call_near, link, return_from, unlink};
@@ -23,7 +24,7 @@ use crate::taking::{
 use crate::updating::{update_memory, update_near};
 use mb_instr::{Plain, Size};
 use mb_port::{Port, Space};
-use mb_table::{Place, Putting, Short, Taking, is_brief};
+use mb_table::{Place, Putting, Short, Taking, is_brief, is_pair};
 
 /// The word behind the first, where it is known at once.
 #[inline(always)]
@@ -117,6 +118,11 @@ fn perform_pair<P: Port>(short: &Short, space: Space, plain: &mut Plain, port: &
         Short::UpdateNear { update, size, base } => update_near(update, size, base, word, space, plain, port),
         Short::CopyNear { size, base, place } => copy_near(size, base, place, word, space, plain, port),
         Short::CopyToNear { size, source, base } => copy_to_near(size, source, base, word, space, plain, port),
+        Short::DivideLong { source } if is_pair(word) => divide_long(source, word, space, plain, port),
+        Short::MultiplyLong { source } if is_pair(word) => {
+            multiply_long(source, word, space, plain, port);
+            Some(false)
+        }
         Short::TestBit { register } => {
             test_bit(register, word, space, plain, port);
             Some(false)

@@ -39,7 +39,7 @@ use Rattle.mb_table.specs.declared.short.Short.TheVariants as short
 use Rattle.mb_table.specs.FirstWords.{alone}
 use Rattle.mb_table.specs.Forms.{place_ea, taking_of, immediate_of, putting_of, update_of, copy_of}
 use Rattle.mb_table.specs.Short.{meaning, meaning_with, meaning_with_long, IsAlone, IsWith, IsWithLong, IsShort}
-use Rattle.mb_table.specs.Short.{IsOfOneWord, IsOfTwoWords, IsOfThreeWords, is_brief, with_brief, HasBrief}
+use Rattle.mb_table.specs.Short.{IsOfOneWord, IsOfTwoWords, IsOfThreeWords, is_brief, is_pair, only_if, IsOfKind}
 
 -- ---- a word by itself
 
@@ -114,27 +114,33 @@ pub any_second : (f : ℕ → Instr) (first second : ℕ) → IsDisplaced f → 
     → (d : ℕ) → d < 2 ^ 16 → IsWith first d (f d)
 any_second f first second = any_fitting FitsWord f first second (λ d h. h)
 
--- with any brief extension word
-abbrev FitsBrief : ℕ → Type 0
-FitsBrief d = (d < 2 ^ 16) × (is_brief d ≡ true)
+-- with any word of a kind
+abbrev FitsKind : (ℕ → Bool) → ℕ → Type 0
+FitsKind is d = (d < 2 ^ 16) × (is d ≡ true)
 
+-- a brief extension word
 abbrev IsIndexed : (ℕ → Instr) → Type 0
-IsIndexed f = IsAlike FitsBrief one_word f
+IsIndexed f = IsAlike (FitsKind is_brief) one_word f
 
-if_brief : (P : Instr → Type 0) (i : Instr) (d : ℕ) (b : Bool) → is_brief d ≡ b → (is_brief d ≡ true → P i) → IfSome (with_brief d i) P
-if_brief P i d true e h = rw e (h e)
-if_brief P i d false e h = rw e tt
+-- the registers of a product or a quotient of longs
+abbrev IsPaired : (ℕ → Instr) → Type 0
+IsPaired f = IsAlike (FitsKind is_pair) one_word f
 
-brief_is : (i j : Instr) (d : ℕ) → is_brief d ≡ true → IfSome (with_brief d j) (λ k. i ≡ k) → i ≡ j
-brief_is i j d e h = rw e at h
+if_of_kind : (P : Instr → Type 0) (i : Instr) (b : Bool) → (b ≡ true → P i) → IfSome (only_if b i) P
+if_of_kind P i true h = h refl
+if_of_kind P i false h = tt
 
-any_brief : (f : ℕ → Instr) (first second : ℕ) (i : Instr) → IsIndexed f → AllDecoded → ReadAgain → first < 2 ^ 16 → second < 2 ^ 16
-    → alone first ≡ More → decode_of (first ∷ second ∷ []) ≡ Whole i 2 → IfSome (with_brief second (f second)) (λ j. i ≡ j)
-    → is_brief second ≡ true → (d : ℕ) → d < 2 ^ 16 → IfSome (with_brief d (f d)) (IsWith first d)
-any_brief f first second i same all again range range' more e h brief d range_d =
-    if_brief (IsWith first d) (f d) d (is_brief d) refl (λ mine.
-    any_fitting FitsBrief f first second (λ d h. h.0) same all again range (range', brief) more
-    (e ∙ ap (λ (j : Instr). Whole j 2) (brief_is i (f second) second brief h)) d (range_d, mine))
+kind_is : (i j : Instr) (b : Bool) → b ≡ true → IfSome (only_if b j) (λ k. i ≡ k) → i ≡ j
+kind_is i j b e h = rw e at h
+
+any_of_kind : (is : ℕ → Bool) (f : ℕ → Instr) (first second : ℕ) (i : Instr) → IsAlike (FitsKind is) one_word f → AllDecoded → ReadAgain
+    → first < 2 ^ 16 → second < 2 ^ 16
+    → alone first ≡ More → decode_of (first ∷ second ∷ []) ≡ Whole i 2 → IfSome (only_if (is second) (f second)) (λ j. i ≡ j)
+    → is second ≡ true → (d : ℕ) → d < 2 ^ 16 → IfSome (only_if (is d) (f d)) (IsWith first d)
+any_of_kind is f first second i same all again range range' more e h it_is d range_d =
+    if_of_kind (IsWith first d) (f d) (is d) (λ mine.
+    any_fitting (FitsKind is) f first second (λ d h. h.0) same all again range (range', it_is) more
+    (e ∙ ap (λ (j : Instr). Whole j 2) (kind_is i (f second) (is second) it_is h)) d (range_d, mine))
 
 load_displaced : (n m : ℕ) → IsDisplaced (λ d. instr.Move (move.Move Long (Dn n) (Disp m d)))
 load_displaced n m = record { legal = λ d e h k. refl; opcode = λ d e. refl; words = λ d. refl }
@@ -249,63 +255,74 @@ put_indexed putting.Zero size m = record { legal = λ d e h k. rw (h.1, k.1) ref
 address_indexed : (n m : ℕ) → IsIndexed (λ d. instr.Move (move.Lea n (Index m (Brief d))))
 address_indexed n m = record { legal = λ d e h k. rw (h.1, k.1) refl; opcode = λ d e. refl; words = λ d. refl }
 
+-- products and quotients of longs
+divide_paired : (n : ℕ) → IsPaired (λ d. instr.Arith (arithmetic.DivL (Dn n) d))
+divide_paired n = record { legal = λ d e h k. rw (h.1, k.1) refl; opcode = λ d e. refl; words = λ d. refl }
+
+multiply_paired : (n : ℕ) → IsPaired (λ d. instr.Arith (arithmetic.MulL (Dn n) d))
+multiply_paired n = record { legal = λ d e h k. rw (h.1, k.1) refl; opcode = λ d e. refl; words = λ d. refl }
+
 -- by a form that has a meaning with each second word, or with none
 with_any : (first second : ℕ) (i : Instr) (s : Short) → AllDecoded → ReadAgain → first < 2 ^ 16 → second < 2 ^ 16
     → alone first ≡ More → decode_of (first ∷ second ∷ []) ≡ Whole i 2 → IfSome (meaning_with second s) (λ j. i ≡ j)
-    → HasBrief second s → (d : ℕ) → d < 2 ^ 16 → IfSome (meaning_with d s) (IsWith first d)
-with_any first second i (short.LoadLong n m) all again r r' more e h brief d k =
+    → IsOfKind second s → (d : ℕ) → d < 2 ^ 16 → IfSome (meaning_with d s) (IsWith first d)
+with_any first second i (short.LoadLong n m) all again r r' more e h kind d k =
     any_second (λ d. instr.Move (move.Move Long (Dn n) (Disp m d))) first second (load_displaced n m) all again r r' more
     (e ∙ ap (λ (j : Instr). Whole j 2) h) d k
-with_any first second i (short.StoreLong n m) all again r r' more e h brief d k =
+with_any first second i (short.StoreLong n m) all again r r' more e h kind d k =
     any_second (λ d. instr.Move (move.Move Long (Disp m d) (Dn n))) first second (store_displaced n m) all again r r' more
     (e ∙ ap (λ (j : Instr). Whole j 2) h) d k
-with_any first second i (short.BranchFar c) all again r r' more e h brief d k =
+with_any first second i (short.BranchFar c) all again r r' more e h kind d k =
     any_second (λ d. instr.Flow (flow.Bcc c (branch.Word d))) first second (branch_displaced c) all again r r' more
     (e ∙ ap (λ (j : Instr). Whole j 2) h) d k
-with_any first second i (short.Loop c n) all again r r' more e h brief d k =
+with_any first second i (short.Loop c n) all again r r' more e h kind d k =
     any_second (λ d. instr.Flow (flow.Dbcc c n d)) first second (loop_displaced c n) all again r r' more
     (e ∙ ap (λ (j : Instr). Whole j 2) h) d k
-with_any first second i (short.TakeNear t size m) all again r r' more e h brief d k =
+with_any first second i (short.TakeNear t size m) all again r r' more e h kind d k =
     any_second (λ d. taking_of t size (Disp m d)) first second (take_displaced t size m) all again r r' more
     (e ∙ ap (λ (j : Instr). Whole j 2) h) d k
-with_any first second i (short.TakeImmediate t Byte) all again r r' more e h brief d k =
+with_any first second i (short.TakeImmediate t Byte) all again r r' more e h kind d k =
     any_second (λ d. immediate_of t Byte d) first second (byte_displaced t) all again r r' more (e ∙ ap (λ (j : Instr). Whole j 2) h) d k
-with_any first second i (short.TakeImmediate t Word) all again r r' more e h brief d k =
+with_any first second i (short.TakeImmediate t Word) all again r r' more e h kind d k =
     any_second (λ d. immediate_of t Word d) first second (word_displaced t) all again r r' more (e ∙ ap (λ (j : Instr). Whole j 2) h) d k
-with_any first second i (short.PutNear t size m) all again r r' more e h brief d k =
+with_any first second i (short.PutNear t size m) all again r r' more e h kind d k =
     any_second (λ d. putting_of t size (Disp m d)) first second (put_displaced t size m) all again r r' more
     (e ∙ ap (λ (j : Instr). Whole j 2) h) d k
-with_any first second i (short.UpdateNear t size m) all again r r' more e h brief d k =
+with_any first second i (short.UpdateNear t size m) all again r r' more e h kind d k =
     any_second (λ d. update_of t size (Disp m d)) first second (update_displaced t size m) all again r r' more
     (e ∙ ap (λ (j : Instr). Whole j 2) h) d k
-with_any first second i (short.CopyNear size m place) all again r r' more e h brief d k =
+with_any first second i (short.CopyNear size m place) all again r r' more e h kind d k =
     any_second (λ d. copy_of size (place_ea place) (Disp m d)) first second (copy_displaced size m place) all again r r' more
     (e ∙ ap (λ (j : Instr). Whole j 2) h) d k
-with_any first second i (short.AddressNear n m) all again r r' more e h brief d k =
+with_any first second i (short.AddressNear n m) all again r r' more e h kind d k =
     any_second (λ d. instr.Move (move.Lea n (Disp m d))) first second (address_displaced n m) all again r r' more
     (e ∙ ap (λ (j : Instr). Whole j 2) h) d k
-with_any first second i (short.CopyToNear size n m) all again r r' more e h brief d k =
+with_any first second i (short.CopyToNear size n m) all again r r' more e h kind d k =
     any_second (λ d. copy_of size (Disp m d) (Ind n)) first second (copy_to_displaced size n m) all again r r' more
     (e ∙ ap (λ (j : Instr). Whole j 2) h) d k
-with_any first second i (short.AddressFromCounter n) all again r r' more e h brief d k =
+with_any first second i (short.AddressFromCounter n) all again r r' more e h kind d k =
     any_second (λ d. instr.Move (move.Lea n (PcDisp d))) first second (counter_displaced n) all again r r' more
     (e ∙ ap (λ (j : Instr). Whole j 2) h) d k
-with_any first second i (short.TestBit n) all again r r' more e h brief d k =
+with_any first second i (short.TestBit n) all again r r' more e h kind d k =
     any_second (λ d. instr.Arith (arithmetic.BitImm bit.Test (Dn n) d)) first second (bit_displaced n) all again r r' more
     (e ∙ ap (λ (j : Instr). Whole j 2) h) d k
-with_any first second i short.CallFar all again r r' more e h brief d k =
+with_any first second i short.CallFar all again r r' more e h kind d k =
     any_second (λ d. instr.Flow (flow.Bcc condition.False (branch.Word d))) first second (branch_displaced condition.False) all again r r' more
     (e ∙ ap (λ (j : Instr). Whole j 2) h) d k
-with_any first second i (short.Link n) all again r r' more e h brief d k =
+with_any first second i (short.Link n) all again r r' more e h kind d k =
     any_second (λ d. instr.Move (move.LinkW n d)) first second (link_displaced n) all again r r' more
     (e ∙ ap (λ (j : Instr). Whole j 2) h) d k
-with_any first second i (short.TakeIndexed t size m) all again r r' more e h brief d k =
-    any_brief (λ d. taking_of t size (Index m (Brief d))) first second i (take_indexed t size m) all again r r' more e h brief d k
-with_any first second i (short.PutIndexed t size m) all again r r' more e h brief d k =
-    any_brief (λ d. putting_of t size (Index m (Brief d))) first second i (put_indexed t size m) all again r r' more e h brief d k
-with_any first second i (short.AddressIndexed n m) all again r r' more e h brief d k =
-    any_brief (λ d. instr.Move (move.Lea n (Index m (Brief d)))) first second i (address_indexed n m) all again r r' more e h brief d k
-with_any first second i _ all again r r' more e h brief d k = tt
+with_any first second i (short.TakeIndexed t size m) all again r r' more e h kind d k =
+    any_of_kind is_brief (λ d. taking_of t size (Index m (Brief d))) first second i (take_indexed t size m) all again r r' more e h kind d k
+with_any first second i (short.PutIndexed t size m) all again r r' more e h kind d k =
+    any_of_kind is_brief (λ d. putting_of t size (Index m (Brief d))) first second i (put_indexed t size m) all again r r' more e h kind d k
+with_any first second i (short.AddressIndexed n m) all again r r' more e h kind d k =
+    any_of_kind is_brief (λ d. instr.Move (move.Lea n (Index m (Brief d)))) first second i (address_indexed n m) all again r r' more e h kind d k
+with_any first second i (short.DivideLong n) all again r r' more e h kind d k =
+    any_of_kind is_pair (λ d. instr.Arith (arithmetic.DivL (Dn n) d)) first second i (divide_paired n) all again r r' more e h kind d k
+with_any first second i (short.MultiplyLong n) all again r r' more e h kind d k =
+    any_of_kind is_pair (λ d. instr.Arith (arithmetic.MulL (Dn n) d)) first second i (multiply_paired n) all again r r' more e h kind d k
+with_any first second i _ all again r r' more e h kind d k = tt
 
 pub learnt_with : (first second : ℕ) (i : Instr) (s : Short) → AllDecoded → ReadAgain → first < 2 ^ 16 → second < 2 ^ 16
     → alone first ≡ More → decode_of (first ∷ second ∷ []) ≡ Whole i 2 → IfSome (meaning_with second s) (λ j. i ≡ j)

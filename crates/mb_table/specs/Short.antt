@@ -5,6 +5,8 @@ use Rattle.mb_instr.specs.declared.kinds.ShiftKind.TheVariants.{Logical}
 use Rattle.mb_instr.specs.declared.operand.Ea.TheVariants.{Dn, An, Ind, Post, Disp, Index, AbsL, PcDisp}
 use Rattle.mb_instr.specs.declared.operand.Ext.TheVariants.{Brief}
 use Rattle.mb_instr.specs.FurtherWords.{extension_word}
+use Rattle.mb_instr.specs.declared.rule.WordRule.TheVariants.{LongPair}
+use Rattle.mb_instr.specs.Rules.{holds}
 use Rattle.mb_instr.specs.declared.instruction.Instr.{Instr}
 use Rattle.mb_instr.specs.declared.instruction.Instr.TheVariants as instr
 use Rattle.mb_instr.specs.declared.instruction.Move.TheVariants as move
@@ -61,9 +63,13 @@ meaning _ = None
 abbrev pub is_brief : ℕ → Bool
 is_brief word = (extension_word word).is_full == 0
 
--- an instruction that has this extension word, where that is brief
-abbrev pub with_brief : ℕ → Instr → Option Instr
-with_brief word i = if is_brief word then Some i else None
+-- a word names the registers of a product or a quotient of longs
+abbrev pub is_pair : ℕ → Bool
+is_pair word = holds LongPair word
+
+-- an instruction, where its second word is of this kind
+abbrev pub only_if : Bool → Instr → Option Instr
+only_if is i = if is then Some i else None
 
 -- the instruction of two words that it is with this second one
 abbrev pub meaning_with : ℕ → Short → Option Instr
@@ -74,13 +80,15 @@ meaning_with d (short.Loop c n) = Some (instr.Flow (flow.Dbcc c n d))
 meaning_with d (short.TakeNear taking size m) = Some (taking_of taking size (Disp m d))
 meaning_with d (short.TakeImmediate taking Byte) = Some (immediate_of taking Byte d)
 meaning_with d (short.TakeImmediate taking Word) = Some (immediate_of taking Word d)
-meaning_with d (short.TakeIndexed taking size m) = with_brief d (taking_of taking size (Index m (Brief d)))
-meaning_with d (short.PutIndexed putting size m) = with_brief d (putting_of putting size (Index m (Brief d)))
-meaning_with d (short.AddressIndexed n m) = with_brief d (instr.Move (move.Lea n (Index m (Brief d))))
+meaning_with d (short.TakeIndexed taking size m) = only_if (is_brief d) (taking_of taking size (Index m (Brief d)))
+meaning_with d (short.PutIndexed putting size m) = only_if (is_brief d) (putting_of putting size (Index m (Brief d)))
+meaning_with d (short.AddressIndexed n m) = only_if (is_brief d) (instr.Move (move.Lea n (Index m (Brief d))))
 meaning_with d (short.PutNear putting size m) = Some (putting_of putting size (Disp m d))
 meaning_with d (short.UpdateNear update size m) = Some (update_of update size (Disp m d))
 meaning_with d (short.CopyNear size m place) = Some (copy_of size (place_ea place) (Disp m d))
 meaning_with d (short.CopyToNear size n m) = Some (copy_of size (Disp m d) (Ind n))
+meaning_with d (short.DivideLong n) = only_if (is_pair d) (instr.Arith (arith.DivL (Dn n) d))
+meaning_with d (short.MultiplyLong n) = only_if (is_pair d) (instr.Arith (arith.MulL (Dn n) d))
 meaning_with d (short.TestBit n) = Some (instr.Arith (arith.BitImm bit.Test (Dn n) d))
 meaning_with d (short.AddressFromCounter n) = Some (instr.Move (move.Lea n (PcDisp d)))
 meaning_with d (short.AddressNear n m) = Some (instr.Move (move.Lea n (Disp m d)))
@@ -121,16 +129,18 @@ IsShort first s =
 abbrev pub IsOfOneWord : Short → Type 0
 IsOfOneWord s = ((second : ℕ) → meaning_with second s ≡ None) × ((value : ℕ) → meaning_with_long value s ≡ None)
 
--- where a form has an extension word, this one is brief
-abbrev pub HasBrief : ℕ → Short → Type 0
-HasBrief second (short.TakeIndexed taking size m) = is_brief second ≡ true
-HasBrief second (short.PutIndexed putting size m) = is_brief second ≡ true
-HasBrief second (short.AddressIndexed n m) = is_brief second ≡ true
-HasBrief second _ = ⊤
+-- where a form has second words of a kind, this is one
+abbrev pub IsOfKind : ℕ → Short → Type 0
+IsOfKind second (short.TakeIndexed taking size m) = is_brief second ≡ true
+IsOfKind second (short.PutIndexed putting size m) = is_brief second ≡ true
+IsOfKind second (short.AddressIndexed n m) = is_brief second ≡ true
+IsOfKind second (short.DivideLong n) = is_pair second ≡ true
+IsOfKind second (short.MultiplyLong n) = is_pair second ≡ true
+IsOfKind second _ = ⊤
 
 -- it is one of two words, of which this is the second, or none
 abbrev pub IsOfTwoWords : ℕ → Short → Type 0
-IsOfTwoWords second s = (meaning s ≡ None) × ((value : ℕ) → meaning_with_long value s ≡ None) × HasBrief second s
+IsOfTwoWords second s = (meaning s ≡ None) × ((value : ℕ) → meaning_with_long value s ≡ None) × IsOfKind second s
 
 -- it is one of three words, or none
 abbrev pub IsOfThreeWords : Short → Type 0

@@ -12,7 +12,7 @@ use crate::operands::{
     Changed, Immediate, Taken, Updated, Written, find_changed, find_immediate, find_taken,
     find_updated, find_written,
 };
-use crate::short::{Short, is_brief};
+use crate::short::{Short, is_brief, is_pair};
 use mb_decode::Decoded;
 use mb_instr::{
     Arith, BitKind, Branch, Condition, Ea, Exchange, Ext, Flow, Instr, Move, ShiftKind, Size,
@@ -247,6 +247,10 @@ fn short_pair(second: u16, instruction: &Instr) -> Short
             if d == second => Short::CopyToNear { size, source, base },
         Instr::Arith(Arith::BitImm { kind: BitKind::Test, ea: Ea::Dn(register), word })
             if word == second => Short::TestBit { register },
+        Instr::Arith(Arith::DivL { ea: Ea::Dn(source), word })
+            if word == second && is_pair(second) => Short::DivideLong { source },
+        Instr::Arith(Arith::MulL { ea: Ea::Dn(source), word })
+            if word == second && is_pair(second) => Short::MultiplyLong { source },
         Instr::Move(Move::LinkW { register, displacement })
             if displacement == second => Short::Link { register },
         Instr::Flow(Flow::Bcc { condition: Condition::False, displacement: Branch::Word(d) })

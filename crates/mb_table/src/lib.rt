@@ -18,6 +18,6 @@ mod three_words;
 pub use first_words::FirstWords;
 pub use forms::{Change, Place, Putting, Register, Taking, Update};
 pub use longer_words::LongerWords;
-pub use short::{Short, is_brief};
+pub use short::{Short, is_brief, is_pair};
 pub use shorts::Shorts;
 pub use three_words::ThreeWords;

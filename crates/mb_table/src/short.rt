@@ -1,13 +1,14 @@
 //! Instructions in short.
 
 ghost use Rattle.std.specs.Prelude.{◌≡◌};
-ghost use Rattle.mb_table.specs.Short.{is_brief};
+ghost use Rattle.mb_table.specs.Short.{is_brief, is_pair};
 
 use crate::forms::{Change, Place, Putting, Register, Taking, Update};
-use mb_instr::{Condition, Size};
+use mb_instr::{Condition, Size, WordRule};
 
 /// What a first word says by itself, in six bytes: which instruction it is, or which one it is with each second word,
-/// with each that is a brief extension word, or with each second and third.
+/// with each of a kind (a brief extension word, or the registers of a product or a quotient), or with each second and
+/// third.
 ///
 /// What is carried out most often has a form of its own, which says all but the numbers in it; the other forms have
 /// parts that say the operand and what becomes of it.
@@ -221,6 +222,14 @@ pub enum Short {
         source: u8,
         base: u8,
     },
+    /// `DIVU`, `DIVS`, `DIVUL` and `DIVSL` of longs by a data register; the second word names the other registers.
+    DivideLong {
+        source: u8,
+    },
+    /// `MULU` and `MULS` of longs by a data register; the second word names the other registers.
+    MultiplyLong {
+        source: u8,
+    },
     /// `BTST #number,Dn`; the second word is the number.
     TestBit {
         register: u8,
@@ -278,4 +287,12 @@ pub fn is_brief(word: u16) -> bool
     ensures { result ≡ is_brief word }
 {
     word >> 8 & 1 == 0
+}
+
+/// Whether a word names the registers of a product or a quotient of longs: it is `0lll sw00 0000 0hhh`.
+#[inline(always)]
+pub fn is_pair(word: u16) -> bool
+    ensures { result ≡ is_pair word }
+{
+    WordRule::LongPair.allows(word)
 }

@@ -157,6 +157,22 @@ static INDEXED: [[u16; 2]; 24] = [
     [0x4BF7, 0xF87F], // LEA (127,A7,A7.L),A5
 ];
 
+/// First words that have a short form with any word that names the registers of a product or a quotient, each with one.
+static PAIRED: [[u16; 2]; 12] = [
+    [0x4C40, 0x1001], // DIVU.L D0,D1
+    [0x4C41, 0x0002], // DIVUL.L D1,D2:D0
+    [0x4C42, 0x5C03], // DIVS.L D2,D3:D5
+    [0x4C43, 0x0801], // DIVSL.L D3,D1:D0
+    [0x4C45, 0x1404], // DIVU.L D5,D4:D1
+    [0x4C46, 0x6C06], // DIVS.L D6,D6:D6
+    [0x4C47, 0x0401], // DIVU.L D7,D1:D0
+    [0x4C00, 0x1000], // MULU.L D0,D1
+    [0x4C01, 0x4800], // MULS.L D1,D4
+    [0x4C02, 0x3400], // MULU.L D2,D0:D3
+    [0x4C03, 0x3C03], // MULS.L D3,D3:D3
+    [0x4C04, 0x4C05], // MULS.L D4,D5:D4
+];
+
 /// What a step is taken from: the status register, the byte that is refused, and whether the bus answers quick calls.
 struct Setting {
     sr: u16,
@@ -237,9 +253,9 @@ fn are_as_general(setting: &Setting, all: &[u16], second: u16, bench: &mut Bench
     true
 }
 
-/// Whether the second step of each two words with an index is as its first.
-fn are_indexed_as_general(setting: &Setting, bench: &mut Bench) -> bool {
-    for [first, second] in &INDEXED {
+/// Whether the second step of each two words is as its first.
+fn are_pairs_as_general(setting: &Setting, all: &[[u16; 2]], bench: &mut Bench) -> bool {
+    for [first, second] in all {
         if !setting.is_as_general([*first, *second, 0x4E71], bench) {
             return false;
         }
@@ -265,7 +281,8 @@ impl Trial for Setting {
         self.put_operands(&mut bench.other);
         are_as_general(self, &ALONE, 0x4E71, bench)
             && are_as_general(self, &WITH_ANOTHER, 0x0004, bench)
-            && are_indexed_as_general(self, bench)
+            && are_pairs_as_general(self, &INDEXED, bench)
+            && are_pairs_as_general(self, &PAIRED, bench)
             && are_found_again(self, bench)
             && bench.other.longs == bench.port.longs
     }
@@ -340,9 +357,64 @@ impl Trial for Index {
     }
 }
 
+/// A division by D5 or a multiplication by D2 with the word behind it, and the registers which that names for the low
+/// long or the quotient and for the high long or the remainder, after it; whether it is an instruction.
+struct Pair {
+    words: [u16; 2],
+    low: u32,
+    high: u32,
+    is_legal: bool,
+}
+
+/// Words that name other registers, numbers without a sign or with one, of 32 bits or of 64, and words that name none.
+#[rattlefmt::skip]
+static PAIRS: [Pair; 18] = [
+    Pair { words: [0x4C45, 0x0000], low: 0x29C3_5CF6, high: 0x29C3_5CF6, is_legal: true }, // DIVU.L D5,D0
+    Pair { words: [0x4C45, 0x0006], low: 0x29C3_5CF6, high: 0x0000_0002, is_legal: true }, // DIVUL.L D5,D6:D0
+    Pair { words: [0x4C45, 0x0800], low: 0xF690_29C4, high: 0xF690_29C4, is_legal: true }, // DIVS.L D5,D0
+    Pair { words: [0x4C45, 0x1802], low: 0xF6C3_905D, high: 0x0000_0000, is_legal: true }, // DIVSL.L D5,D2:D1
+    Pair { words: [0x4C45, 0x1404], low: 0xF6C3_905D, high: 0x0000_0000, is_legal: true }, // DIVU.L D5,D4:D1
+    Pair { words: [0x4C45, 0x5C00], low: 0x0000_0005, high: 0xD0D0_D0D0, is_legal: true }, // DIVS.L D5,D0:D5
+    Pair { words: [0x4C45, 0x0401], low: 0xD0D0_D0D0, high: 0xD1D1_D1D1, is_legal: true }, // DIVU.L D5,D1:D0
+    Pair { words: [0x4C45, 0x4807], low: 0x0000_0000, high: 0x0000_0004, is_legal: true }, // DIVSL.L D5,D7:D4
+    Pair { words: [0x4C45, 0x8000], low: 0xD0D0_D0D0, high: 0xD0D0_D0D0, is_legal: false },
+    Pair { words: [0x4C45, 0x0008], low: 0xD0D0_D0D0, high: 0xD0D0_D0D0, is_legal: false },
+    Pair { words: [0x4C02, 0x0000], low: 0x8135_EAA0, high: 0x8135_EAA0, is_legal: true }, // MULU.L D2,D0
+    Pair { words: [0x4C02, 0x0401], low: 0x8135_EAA0, high: 0xABF7_428C, is_legal: true }, // MULU.L D2,D1:D0
+    Pair { words: [0x4C02, 0x0C01], low: 0x8135_EAA0, high: 0x0853_9EEA, is_legal: true }, // MULS.L D2,D1:D0
+    Pair { words: [0x4C02, 0x0C00], low: 0x0853_9EEA, high: 0x0853_9EEA, is_legal: true }, // MULS.L D2,D0:D0
+    Pair { words: [0x4C02, 0x5800], low: 0x1E1E_1E1A, high: 0xD0D0_D0D0, is_legal: true }, // MULS.L D2,D5
+    Pair { words: [0x4C02, 0x5400], low: 0x1E1E_1E1A, high: 0x0000_0004, is_legal: true }, // MULU.L D2,D0:D5
+    Pair { words: [0x4C02, 0x8000], low: 0xD0D0_D0D0, high: 0xD0D0_D0D0, is_legal: false },
+    Pair { words: [0x4C02, 0x0200], low: 0xD0D0_D0D0, high: 0xD0D0_D0D0, is_legal: false },
+];
+
+impl Trial for Pair {
+    /// Once the first word came with one that names registers it is right with any other.
+    fn passes(&self, bench: &mut Bench) -> bool {
+        let [first, second] = self.words;
+        SETTINGS[0].put_operands(&mut bench.port);
+        let _learnt = SETTINGS[0].step(
+            [first, 0x3000, 0x4E71],
+            &mut bench.decoder,
+            &mut bench.port,
+        );
+        let stepped = SETTINGS[0].step(
+            [first, second, 0x4E71],
+            &mut bench.decoder,
+            &mut bench.port,
+        );
+        let regs = &stepped.cpu.regs;
+        regs.d[(second >> 12 & 7) as usize] == self.low
+            && regs.d[(second & 7) as usize] == self.high
+            && (regs.pc == CODE + 4) == self.is_legal
+    }
+}
+
 #[test]
 fn short_forms(rt: HostRuntime) {
     check(&rt, rt.alloc(), &SETTINGS);
     check(&rt, rt.alloc(), &THIRDS);
     check(&rt, rt.alloc(), &INDICES);
+    check(&rt, rt.alloc(), &PAIRS);
 }
