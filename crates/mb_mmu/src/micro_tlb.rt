@@ -84,11 +84,11 @@ impl Entries {
     fn place(&self, space: Space, at: u32) -> Option<u32>
         ensures { result ≡ place_by (entry_in self.now space at) at }
     {
-        let index = page_of(at) as usize % ENTRIES;
-        match space {
-            Space::User => self.user[index].place(at),
-            Space::Super => self.supervisor[index].place(at),
-        }
+        let entries = match space {
+            Space::User => &self.user,
+            Space::Super => &self.supervisor,
+        };
+        entries[page_of(at) as usize % ENTRIES].place(at)
     }
 
     /// Remembers an entry of a space.
