@@ -212,7 +212,7 @@ impl Core {
         ensures ram { length self.new.world.ram ≡ length self.old.world.ram }
     {
         let mut bus = CalmBus::<TRANSLATES> { bus: &mut self.bus };
-        step_at_once::<_, _, Loop>(&self.decoder, space, &mut self.cpu, &mut bus, follower)
+        step_at_once::<_, _, Loop>(&mut self.decoder, space, &mut self.cpu, &mut bus, follower)
     }
 
     /// One step at which nothing arrives, and which is not counted, by no short form.

@@ -1,7 +1,7 @@
 //! What a processor decodes with.
 
 use mb_instr::{Exchange, Instr, Move};
-use mb_table::{FirstWords, LongerWords, Shorts, ThreeWords};
+use mb_table::{FirstWords, LongerWords, PlacedShorts, Shorts, ThreeWords};
 use std::alloc::{AllocError, Global};
 
 /// Instructions of several words: those of two and three that are remembered, and a place for one that is decoded.
@@ -18,6 +18,7 @@ pub(crate) struct Longer {
 pub struct Decoder {
     pub(crate) first_words: FirstWords,
     pub(crate) shorts: Shorts,
+    pub(crate) placed: PlacedShorts,
     pub(crate) longer: Longer,
 }
 
@@ -27,6 +28,7 @@ impl Decoder {
         Ok(Decoder {
             first_words: FirstWords::new(alloc)?,
             shorts: Shorts::new(alloc)?,
+            placed: PlacedShorts::new(alloc)?,
             longer: Longer {
                 words: LongerWords::new(alloc)?,
                 three_words: ThreeWords::new(alloc)?,

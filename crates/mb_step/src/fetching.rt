@@ -26,7 +26,7 @@ use mb_instr::vectors::{ILLEGAL, LINE_A, LINE_F, ODD_COUNTER};
 use mb_instr::{Instr, MOST_WORDS};
 use mb_port::{Port, Space};
 use mb_short::{Follower, Nobody, perform_short};
-use mb_table::{FirstWords, Short, Shorts};
+use mb_table::{FirstWords, PlacedShorts, Short, Shorts};
 
 /// How many words an instruction can have behind its first.
 const MOST_BEHIND: usize = MOST_WORDS - 1;
@@ -358,6 +358,7 @@ fn execute_first<P: Port>(
 pub(crate) fn execute_by_row<P: Port>(
     first_words: &mut FirstWords,
     shorts: &mut Shorts,
+    placed: &mut PlacedShorts,
     longer: &mut Longer,
     processor: &mut Processor,
     port: &mut P,
@@ -378,7 +379,9 @@ pub(crate) fn execute_by_row<P: Port>(
     if let Short::Unknown = shorts.of(first) {
         learn(first, first_words, shorts);
     }
-    execute_first(first, first_words, shorts, longer, processor, port)
+    let finish = execute_first(first, first_words, shorts, longer, processor, port);
+    placed.renew(at, first, shorts);
+    finish
 }
 
 /// Carries out the instruction of a first word's short form that stands at PC, where that is done at once; no trace is
@@ -418,6 +421,7 @@ fn execute_untraced<P: Port, F: Follower, Loop>(
 #[inline(always)]
 pub(crate) fn execute_at_once<P: Port, F: Follower, Loop>(
     shorts: &Shorts,
+    placed: &mut PlacedShorts,
     space: Space,
     processor: &mut Processor,
     port: &mut P,
@@ -439,17 +443,11 @@ pub(crate) fn execute_at_once<P: Port, F: Follower, Loop>(
     if at % 2 == 1 {
         return false;
     }
-    match port.quick_fetch(space, at) {
-        Some(first) => execute_untraced::<_, _, Loop>(
-            first,
-            shorts.of(first),
-            space,
-            processor,
-            port,
-            follower,
-        ),
-        None => false,
-    }
+    let Some(first) = port.quick_fetch(space, at) else {
+        return false;
+    };
+    let short = placed.of(at, first, shorts);
+    execute_untraced::<_, _, Loop>(first, short, space, processor, port, follower)
 }
 
 /// Fetches the instruction that stands at PC and carries it out: by its short form, where that is done at once. No word

@@ -70,7 +70,7 @@ struct Single;
 /// the follower was told what it changed. Else nothing has changed. `space` is that of the processor's accesses.
 #[inline(always)]
 pub fn step_at_once<P: Port, F: Follower, Loop>(
-    decoder: &Decoder,
+    decoder: &mut Decoder,
     space: Space,
     processor: &mut Processor,
     port: &mut P,
@@ -89,7 +89,14 @@ pub fn step_at_once<P: Port, F: Follower, Loop>(
     ensures still { P.still (P.world port.new) ≡ P.still (P.world port.old) }
     ensures rest { P.rest port.new ≡ P.rest port.old }
 {
-    execute_at_once::<_, _, Loop>(&decoder.shorts, space, processor, port, follower)
+    execute_at_once::<_, _, Loop>(
+        &decoder.shorts,
+        &mut decoder.placed,
+        space,
+        processor,
+        port,
+        follower,
+    )
 }
 
 /// One step as `step_in_place` takes it with no interrupt asked for, but its instruction is not carried out by a short
@@ -110,6 +117,7 @@ pub fn step_by_row<P: Port>(
     execute_by_row(
         &mut decoder.first_words,
         &mut decoder.shorts,
+        &mut decoder.placed,
         &mut decoder.longer,
         processor,
         port,

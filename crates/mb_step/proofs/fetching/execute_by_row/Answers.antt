@@ -17,4 +17,4 @@ returns-clause-means g c =
     let even = rw c.pc-at.ensures at c.if-at-eq1.false in
     let first = word_came g.P.Port.bus _ _ _ _ _ _ _ (rw c.pc-at.ensures at c.in-Ok.ensures.means) in
     first_word g.P.Port.bus c.args.processor.now _ c.in-Ok.word _ (g.P.Port.world c.fetch_word.new.port) _ even c.space-space.ensures first refl
-    ∙ (rw c.in-Ok.ensures.same at c.execute_first.ensures.means)
+    ∙ (rw c.in-Ok.ensures.same at c.execute_first-finish.ensures.means)
