@@ -47,7 +47,7 @@ fn with_digit(sum: u64, place: u64, old: u32, new: u32) -> u64
 }
 
 /// What D0 to D7 and A0 to A7 spell, with two zeros behind them, modulo 2^64.
-#[derive(Drop)]
+#[derive(Clone, Copy)]
 pub(crate) struct Digits {
     sum: u64,
 }

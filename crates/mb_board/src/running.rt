@@ -102,7 +102,7 @@ impl Core {
     }
 
     /// Takes calm steps of a run in user mode that are carried out at once, at most so many. Gives how many are left.
-    #[inline(always)]
+    #[inline(never)]
     fn run_at_once_for(&mut self, limit: u32, digits: &mut Digits, ends: &mut u64) -> u32
         requires calm { IsCalm self.old }
         requires space { Space.User ≡ space_of self.old.cpu }
@@ -115,13 +115,17 @@ impl Core {
         ensures digits { digits.new.sum ≡ without_flow (plain_of self.new.cpu.regs) }
         ensures ram { length self.new.world.ram ≡ length self.old.world.ram }
     {
+        // copies, which no call takes, stand in registers
+        let (mut digits_here, mut ends_here) = (*digits, *ends);
         let mut left = limit;
         while left > 0 {
-            if !self.run_on_at_once(digits, ends) {
+            if !self.run_on_at_once(&mut digits_here, &mut ends_here) {
                 break;
             }
             left -= 1;
         }
+        *digits = digits_here;
+        *ends = ends_here;
         left
     }
 

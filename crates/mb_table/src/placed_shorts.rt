@@ -24,9 +24,9 @@ const NOTHING: Placed = Placed {
     form: Short::Unknown,
 };
 
-/// The short forms of the first words that came lately, each where the word's address leads: so those of a loop lie side
-/// by side, and what is done at an address is known before the word there is read, which is compared. Nothing is seen of
-/// which words these are.
+/// The short forms of the first words that came lately, each where the word's address leads: so those of a loop lie
+/// side by side, and what is done at an address is known before the word there is read, which is compared. Nothing is
+/// seen of which words these are.
 #[derive(Drop)]
 pub struct PlacedShorts {
     placed: Vec<Placed>,

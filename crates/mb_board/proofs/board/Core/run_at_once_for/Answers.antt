@@ -27,7 +27,7 @@ loop-left-preserved c =
       within = (omega arith);
       leads = λ native begun steps begins. let taken = steps + (c.args.limit - c.loop-left.left) in
           led_on c.args.limit c.loop-left.left taken (steps + (c.args.limit - (c.loop-left.left - 1))) c.args.self.now c.loop-left.self after Went native
-          begun c.loop-left.ends c.run_on_at_once.new.ends (omega arith) held.within (omega arith) (step.means went)
+          begun c.loop-left.ends_here c.run_on_at_once.new.ends (omega arith) held.within (omega arith) (step.means went)
           (went_on after (ap takes_steps step.calm.running)) (λ counted. step.ends went counted begun taken) (held.leads native begun steps begins);
       ram = step.ram ∙ held.ram;
     }

@@ -11,10 +11,10 @@ abbrev pub invariant-loop-left : goal.invariant-loop-left
 invariant-loop-left l = record {
   calm : IsCalm l.self;
   space : space.User ≡ space_of l.self.cpu;
-  digits : l.digits.sum ≡ without_flow (plain_of l.self.cpu.regs);
+  digits : l.digits_here.sum ≡ without_flow (plain_of l.self.cpu.regs);
   within : l.left ≤ l.limit;
   leads : (native : NativeState) (begun steps : ℕ) → Begins (plain_of l.initial.self.cpu.regs) native (gathered begun steps l.initial.ends)
-      → Leads l.limit (l.limit - l.left) l.initial.self l.self native (gathered begun (steps + (l.limit - l.left)) l.ends);
+      → Leads l.limit (l.limit - l.left) l.initial.self l.self native (gathered begun (steps + (l.limit - l.left)) l.ends_here);
   ram : length l.self.world.ram ≡ length l.initial.self.world.ram;
 }
 
